@@ -1,0 +1,4 @@
+// The line table: a row for each line of a source.
+pub mod line;
+pub mod table;
+pub mod tally;
