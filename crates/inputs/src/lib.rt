@@ -45,9 +45,62 @@ pub fn fill_from_file<F: Files>(rt: &F, path: &str, buf: &mut [u8]) -> io::Resul
         }
         Err(error) => {
             if error.kind() == ErrorKind::NotFound {
-                return Ok(Filled { count: 0, cut: false });
+                return Ok(Filled {
+                    count: 0,
+                    cut: false,
+                });
             }
             Err(error)
         }
+    }
+}
+
+#[cfg(test)]
+mod tests {
+    use super::*;
+    use std::test::*;
+
+    // What `fill` makes of five bytes in a buffer of eight, of five and of three.
+    #[test]
+    fn fills_up_to_the_buffer() -> Result<(), Fail> {
+        let mut roomy = [0u8; 8];
+        let mut exact = [0u8; 5];
+        let mut small = [0u8; 3];
+        check_eq(
+            fill(&mut b"bytes".as_slice(), &mut roomy)?,
+            Filled {
+                count: 5,
+                cut: false,
+            },
+        )?;
+        check_eq(
+            fill(&mut b"bytes".as_slice(), &mut exact)?,
+            Filled {
+                count: 5,
+                cut: false,
+            },
+        )?;
+        check_eq(
+            fill(&mut b"bytes".as_slice(), &mut small)?,
+            Filled {
+                count: 3,
+                cut: true,
+            },
+        )?;
+        check_eq(roomy, *b"bytes\0\0\0")?;
+        check_eq(small, *b"byt")
+    }
+
+    #[test]
+    fn missing_file_is_empty(rt: LibcRuntime) -> Result<(), Fail> {
+        let mut buf = [7u8; 2];
+        check_eq(
+            fill_from_file(&rt, "no/such/file", &mut buf)?,
+            Filled {
+                count: 0,
+                cut: false,
+            },
+        )?;
+        check_eq(buf, [7, 7])
     }
 }

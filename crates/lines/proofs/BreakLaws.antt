@@ -61,9 +61,10 @@ module _ {rule : List ℕ → ℕ} (lawful : LineRule rule) where
       → (breaksBy rule k (i + 1) (take j t) ++ breaksBy rule 0 (i + suc j) (drop j t) ≡ breaksBy rule k (i + 1) t) × (lineOf (breaksBy rule k (i + 1) t) (i + suc j) ≡ length (breaksBy rule k (i + 1) (take j t)))
   onward k i t j rest out =
       let same : i + 1 + j ≡ i + suc j = omega arith in
-      let s = rest (subst (λ (o : ℕ). lowered (breaksBy rule k (i + 1) t) o ≡ o) (sym same) out) in
-      (subst (λ (o : ℕ). breaksBy rule k (i + 1) (take j t) ++ breaksBy rule 0 o (drop j t) ≡ breaksBy rule k (i + 1) t) same (s .halves),
-       subst (λ (o : ℕ). lineOf (breaksBy rule k (i + 1) t) o ≡ length (breaksBy rule k (i + 1) (take j t))) same (s .count))
+      let s = rest (subst (λ (o : ℕ). lowered (breaksBy rule k (i + 1) t) o ≡ o) (sym same) out) in (
+        subst (λ (o : ℕ). breaksBy rule k (i + 1) (take j t) ++ breaksBy rule 0 o (drop j t) ≡ breaksBy rule k (i + 1) t) same (s .halves),
+        subst (λ (o : ℕ). lineOf (breaksBy rule k (i + 1) t) o ≡ length (breaksBy rule k (i + 1) (take j t))) same (s .count),
+      )
 
   -- a break of width v begins here
   first : (i c : ℕ) (t : List ℕ) (j : ℕ) → ((k : ℕ) → k ≤ length t → k ≤ j → Outside k (i + 1) t j → Split k (i + 1) t j) → (v : ℕ) → rule (c ∷ t) ≡ v
@@ -76,7 +77,7 @@ module _ {rule : List ℕ → ℕ} (lawful : LineRule rule) where
       (sym kept)
       (onward 0 i t j (rest 0 (omega arith) (omega arith)) out)
   first i c t j rest (suc m) e out = ⊎-elim
-    (λ passed.
+      (λ passed.
       let fits = lawful .within (c ∷ t) in
       let kept : rule (c ∷ take j t) ≡ suc m = lawful .cut (c ∷ t) (suc j) (omega (arith, e, passed .1)) ∙ e in
       let le = passed .1 in
@@ -88,13 +89,13 @@ module _ {rule : List ℕ → ℕ} (lawful : LineRule rule) where
       subst (λ (v : ℕ). (opened i v (breaksBy rule (pred v) (i + 1) (take j t)) ++ breaksBy rule 0 (i + suc j) (drop j t) ≡ opened i (suc m) (breaksBy rule m (i + 1) t)) × (lineOf (opened i (suc m) (breaksBy rule m (i + 1) t)) (i + suc j) ≡ length (opened i v (breaksBy rule (pred v) (i + 1) (take j t)))))
       (sym kept)
       (ap (λ bs. b ∷ bs) (s .0), simp ends (omega (arith, s .1))))
-    (λ within.
+      (λ within.
       let lt = within .1 in
       let low : ltb i (i + suc j) ≡ true = grind (arith, tells) in
       let high : leb (i + suc j) (i + m) ≡ true = grind (arith, tells) in
       let at : lowered (opened i (suc m) (breaksBy rule m (i + 1) t)) (i + suc j) ≡ i = simp (low, high) in
       absurd (omega (arith, at, out)))
-    (leb-tells m j)
+      (leb-tells m j)
 
   pub split-by : (k i : ℕ) (t : List ℕ) (j n : ℕ) → i + length t ≡ n → k ≤ length t → k ≤ j → Outside k i t j → Split k i t j
   split-by k i [] zero n e le low out = record { halves = refl; count = refl }
@@ -116,7 +117,7 @@ module _ {rule : List ℕ → ℕ} (lawful : LineRule rule) where
 pub every-text : EveryText
 every-text rule lawful t =
     let cut : (j : ℕ) → lowered (breaksBy rule 0 0 t) j ≡ j → Split lawful 0 0 t j =
-      λ j out. (let same : 0 + j ≡ j = omega arith in split-by lawful 0 0 t j (length t) (omega arith) (omega arith) (omega arith) (subst (λ (o : ℕ). lowered (breaksBy rule 0 0 t) o ≡ o) (sym same) out)) in
+    λ j out. (let same : 0 + j ≡ j = omega arith in split-by lawful 0 0 t j (length t) (omega arith) (omega arith) (omega arith) (subst (λ (o : ℕ). lowered (breaksBy rule 0 0 t) o ≡ o) (sym same) out)) in
     record {
       rising = rising-by lawful 0 0 t (length t) (omega arith) (omega arith);
       split = λ j out. (let same : 0 + j ≡ j = omega arith in subst (λ (o : ℕ). breaksBy rule 0 0 (take j t) ++ breaksBy rule 0 o (drop j t) ≡ breaksBy rule 0 0 t) same (cut j out .halves));
@@ -130,9 +131,9 @@ never-falls (b ∷ bs) o p le = let rest = never-falls bs o p le in grind (arith
 one-a-step : (i : ℕ) (bs : List LineBreak) (n o : ℕ) → Rising i bs n → lineOf bs (o + 1) ≤ lineOf bs o + 1
 one-a-step i [] n o r = omega arith
 one-a-step i (b ∷ bs) n o r = ⊎-elim
-  (λ earlier. let lt = earlier .1 in let rest = one-a-step (past b) bs n o (r .3) in grind (arith, tells))
-  (λ later. let le = later .1 in let rest = line-none (past b) bs n (o + 1) (r .3) (omega arith) in grind (arith, tells))
-  (leb-tells (suc (b .end)) o)
+    (λ earlier. let lt = earlier .1 in let rest = one-a-step (past b) bs n o (r .3) in grind (arith, tells))
+    (λ later. let le = later .1 in let rest = line-none (past b) bs n (o + 1) (r .3) (omega arith) in grind (arith, tells))
+    (leb-tells (suc (b .end)) o)
 
 -- where break k lies
 pub record Lies (i : ℕ) (bs : List LineBreak) (n k : ℕ) (b : LineBreak) : Type 0 where
@@ -203,7 +204,7 @@ unlowered i bs o le same = record { from = omega (arith, same); to = omega (arit
 pub lower-law : (i : ℕ) (bs : List LineBreak) (n o : ℕ) → Rising i bs n → i ≤ o → Lowered i bs o
 lower-law i [] n o r le = unlowered i [] o le refl
 lower-law i (b ∷ bs) n o r le = ⊎-elim
-  (λ after.
+    (λ after.
     let lt = after .1 in let x = r .0 in let y = r .1 in
     let rest = lower-law (past b) bs n o (r .3) (omega arith) in
     let from = rest .from in
@@ -217,27 +218,27 @@ lower-law i (b ∷ bs) n o r le = ⊎-elim
       out = ap (lowered (b ∷ bs)) skip ∙ again ∙ rest .out ∙ sym skip;
       on-line = ap (lineOf (b ∷ bs)) skip ∙ simp (here, there) (omega (arith, rest .on-line));
     })
-  (λ upto. ⊎-elim
+    (λ upto. ⊎-elim
     (λ within.
-      let le2 = upto .1 in let lt = within .1 in let x = r .0 in let y = r .1 in
-      let at : lowered (b ∷ bs) o ≡ b .start = (let high : leb o (b .end) ≡ true = grind (arith, tells) in let low = within .0 in simp (low, high)) in
-      let late = lowered-none (past b) bs n (b .start) (r .3) (omega arith) in
-      let out : lowered (b ∷ bs) (b .start) ≡ b .start = (let low : ltb (b .start) (b .start) ≡ false = grind (arith, tells) in simp (low, late)) in
-      let none = line-none (past b) bs n o (r .3) (omega arith) in
-      let none2 = line-none (past b) bs n (b .start) (r .3) (omega arith) in
-      record {
-        from = omega (arith, at);
-        to = omega (arith, at);
-        out = ap (lowered (b ∷ bs)) at ∙ out ∙ sym at;
-        on-line = ap (lineOf (b ∷ bs)) at ∙ grind (arith, tells);
-      })
+    let le2 = upto .1 in let lt = within .1 in let x = r .0 in let y = r .1 in
+    let at : lowered (b ∷ bs) o ≡ b .start = (let high : leb o (b .end) ≡ true = grind (arith, tells) in let low = within .0 in simp (low, high)) in
+    let late = lowered-none (past b) bs n (b .start) (r .3) (omega arith) in
+    let out : lowered (b ∷ bs) (b .start) ≡ b .start = (let low : ltb (b .start) (b .start) ≡ false = grind (arith, tells) in simp (low, late)) in
+    let none = line-none (past b) bs n o (r .3) (omega arith) in
+    let none2 = line-none (past b) bs n (b .start) (r .3) (omega arith) in
+    record {
+      from = omega (arith, at);
+      to = omega (arith, at);
+      out = ap (lowered (b ∷ bs)) at ∙ out ∙ sym at;
+      on-line = ap (lineOf (b ∷ bs)) at ∙ grind (arith, tells);
+    })
     (λ out.
-      let le2 = out .1 in
-      let late = lowered-none (past b) bs n o (r .3) (let y = r .1 in omega arith) in
-      let low : ltb (b .start) o ≡ false = out .0 in
-      unlowered i (b ∷ bs) o le (simp (low, late)))
+    let le2 = out .1 in
+    let late = lowered-none (past b) bs n o (r .3) (let y = r .1 in omega arith) in
+    let low : ltb (b .start) o ≡ false = out .0 in
+    unlowered i (b ∷ bs) o le (simp (low, late)))
     (leb-tells (suc (b .start)) o))
-  (leb-tells (suc (b .end)) o)
+    (leb-tells (suc (b .end)) o)
 
 pub every-list : EveryList
 every-list bs n r = record {

@@ -17,7 +17,7 @@ use Rattle.std.specs.shelf.Lists.{leading}
 use Rattle.lines.specs.Breaks.{seen, opened, breaksBy, breaks, breakEnding, past, lineOf, nextBreak, inside, lowered}
 use Rattle.lines.specs.Laws.{Rising}
 use Rattle.lines.specs.LineRule.{endsLine, isPair, width}
-use Rattle.lines.specs.Search.{isPlain, nextEnding}
+use Rattle.lines.specs.Endings.{isPlain, nextEnding}
 use Rattle.lines.specs.declared.records.LineBreak.{LineBreak}
 use Rattle.lines.proofs.BreakLaws.{lowered-none, rising-by, lies, every-text, every-list}
 use Rattle.lines.proofs.WidthRule.{width-rule}
@@ -119,26 +119,26 @@ width-ends c (d ∷ t) e z = grind (arith, tells)
 pub stops : (i : ℕ) (t : List ℕ) → Stops i t
 stops i [] = record { same = refl; end = λ z. refl }
 stops i (c ∷ t) = ⊎-elim
-  (λ (ends : endsLine c ≡ true).
+    (λ (ends : endsLine c ≡ true).
     let none : leading isPlain (c ∷ t) ≡ 0 = simp ends in
     let from : i + 0 ≡ i = omega arith in
     record {
       same = sym (ap (λ n. breaksBy width 0 (i + n) (drop n (c ∷ t))) none ∙ ap (λ i. breaksBy width 0 i (c ∷ t)) from);
       end = λ z. absurd (width-ends c t ends (sym (ap (λ n. width (drop n (c ∷ t))) none) ∙ z));
     })
-  (λ (plain : endsLine c ≡ false).
+    (λ (plain : endsLine c ≡ false).
     let rest = stops (i + 1) t in
     let more : leading isPlain (c ∷ t) ≡ suc (leading isPlain t) = simp plain (omega arith) in
     let from : i + 1 + leading isPlain t ≡ i + suc (leading isPlain t) = omega arith in
     record {
       same =
-        ap (λ v. opened i v (breaksBy width (pred v) (i + 1) t)) (width-plain c t plain)
-        ∙ rest .same
-        ∙ ap (λ i. breaksBy width 0 i (drop (leading isPlain t) t)) from
-        ∙ sym (ap (λ n. breaksBy width 0 (i + n) (drop n (c ∷ t))) more);
+          ap (λ v. opened i v (breaksBy width (pred v) (i + 1) t)) (width-plain c t plain)
+          ∙ rest .same
+          ∙ ap (λ i. breaksBy width 0 i (drop (leading isPlain t) t)) from
+          ∙ sym (ap (λ n. breaksBy width 0 (i + n) (drop n (c ∷ t))) more);
       end = λ z. (ap (λ n. drop n (c ∷ t)) more ∙ rest .end (sym (ap (λ n. width (drop n (c ∷ t))) more) ∙ z));
     })
-  (cases-bool (endsLine c))
+    (cases-bool (endsLine c))
 
 after-all : (ones bs : List LineBreak) → breakEnding (ones ++ bs) (length ones) ≡ breakEnding bs 0
 after-all [] bs = refl
@@ -175,30 +175,30 @@ module _ (t : List ℕ) (from : ℕ) where
 
     pub finds-none : (w : ℕ) → w ≡ width (drop p t) → w ≡ 0 → None ≡ nextBreak (breaks t) from
     finds-none w wide z = ⊎-elim
-      (λ in-text.
+        (λ in-text.
         let at = at-p (in-text .1) in
         let s = stops i (drop i t) in
         let empty : drop (leading isPlain (drop i t)) (drop i t) ≡ [] = s .end (ap width (at .1) ∙ sym wide ∙ z) in
         sym (from-low ∙ ap (λ bs. breakEnding bs 0) (s .same ∙ ap (breaksBy width 0 (i + leading isPlain (drop i t))) empty)))
-      (λ out. let empty = drop-all i t (omega (arith, out .1)) in sym (from-low ∙ ap (λ u. breakEnding (breaksBy width 0 i u) 0) empty))
-      (leb-tells i (length t))
+        (λ out. let empty = drop-all i t (omega (arith, out .1)) in sym (from-low ∙ ap (λ u. breakEnding (breaksBy width 0 i u) 0) empty))
+        (leb-tells i (length t))
 
     pub finds-some : (w : ℕ) → w ≡ width (drop p t) → (w ≡ 0 → ⊥) → Some (record { start = p; end = p + w - 1 }) ≡ nextBreak (breaks t) from
     finds-some zero wide some = absurd (some refl)
     finds-some (suc m) wide some = ⊎-elim
-      (λ in-text.
+        (λ in-text.
         let at = at-p (in-text .1) in
         let s = stops i (drop i t) in
         let last : p + m ≡ p + suc m - 1 = omega arith in
         sym (from-low
-          ∙ ap (λ bs. breakEnding bs 0) (s .same)
-          ∙ ap (λ j. breakEnding (breaksBy width 0 j (drop (leading isPlain (drop i t)) (drop i t))) 0) (at .0)
-          ∙ first-of p (drop (leading isPlain (drop i t)) (drop i t)) m (ap width (at .1) ∙ sym wide)
-          ∙ ap (λ j. Some (record { start = p; end = j })) last))
-      (λ out.
+        ∙ ap (λ bs. breakEnding bs 0) (s .same)
+        ∙ ap (λ j. breakEnding (breaksBy width 0 j (drop (leading isPlain (drop i t)) (drop i t))) 0) (at .0)
+        ∙ first-of p (drop (leading isPlain (drop i t)) (drop i t)) m (ap width (at .1) ∙ sym wide)
+        ∙ ap (λ j. Some (record { start = p; end = j })) last))
+        (λ out.
         let empty = drop-all p t (let o = out .1 in omega (arith, is)) in
         absurd (omega (arith, wide, ap width empty)))
-      (leb-tells i (length t))
+        (leb-tells i (length t))
 
     pub fits : (w : ℕ) → w ≡ width (drop p t) → p + w ≤ length t
     fits w wide = let m : p ≤ length t = omega (arith, is) in omega (arith, wide, width-rule .within (drop p t), length-drop p t)

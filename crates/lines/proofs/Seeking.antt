@@ -11,7 +11,7 @@ use Rattle.std.proofs.shelf.Lists.{drop-drop, length-drop}
 use Rattle.std.proofs.shelf.Sums.{leading-drop-yes, leading-drop-no, leading-drop-all, leading-le-length}
 use Rattle.std.proofs.shelf.Ways.{tells}
 use Rattle.lines.specs.LineRule.{endsLine}
-use Rattle.lines.specs.Search.{isPlain, nextEnding}
+use Rattle.lines.specs.Endings.{isPlain, nextEnding}
 
 module _ (t : List ℕ) (i : ℕ) where
   -- a plain byte is passed over

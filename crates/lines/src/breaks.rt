@@ -3,8 +3,8 @@ ghost use mathlib.Core.Path.{_≡_};
 ghost use lib.ListN.{drop};
 ghost use Rattle.lines.specs.Breaks.{seen, breaks, nextBreak, lowered};
 ghost use Rattle.lines.specs.LineRule.{width};
+use crate::endings::next_ending;
 use crate::records::LineBreak;
-use crate::search::next_ending;
 
 // How many bytes of a source a call sees: as many as have a place of 32 bits.
 const MOST_BYTES: usize = 4_294_967_295;
@@ -20,7 +20,11 @@ pub fn seen_bytes(source: &[u8]) -> &[u8]
 pub fn break_width(text: &[u8], at: usize) -> usize
     ensures { λ r. ⌜ r ≡ width (drop at (now (text .entry))) ⌝ }
 {
-    if at < text.len() { front_width(&text[at..]) } else { 0 }
+    if at < text.len() {
+        front_width(&text[at..])
+    } else {
+        0
+    }
 }
 
 fn front_width(text: &[u8]) -> usize

@@ -8,5 +8,4 @@ pub fn line_laws_hold()
     ensures rule { λ _. ⌜ LineRule width ⌝ }
     ensures texts { λ _. ⌜ EveryText ⌝ }
     ensures lists { λ _. ⌜ EveryList ⌝ }
-{
-}
+{}

@@ -29,7 +29,7 @@ impl SourceSpan {
     pub fn is_empty(&self) -> bool
         ensures { λ r. ⌜ r ≡ eqb (now (self .entry) .length) 0 ⌝ }
     {
-        self.length == 0
+        self.len() == 0
     }
 }
 
@@ -38,7 +38,10 @@ pub impl From<(u32, u32)> for SourceSpan as SpanFromPair {
     ghost converts = { λ p s. s ≡ spanOf (p .0) (p .1) };
 
     fn from(pair: (u32, u32)) -> SourceSpan {
-        SourceSpan { offset: pair.0, length: pair.1 }
+        SourceSpan {
+            offset: pair.0,
+            length: pair.1,
+        }
     }
 }
 
@@ -47,7 +50,10 @@ pub impl From<Range<u32>> for SourceSpan as SpanFromRange {
     ghost converts = { λ p s. s ≡ spanBetween (p .start) (p .end) };
 
     fn from(range: Range<u32>) -> SourceSpan {
-        SourceSpan { offset: range.start, length: range.end.saturating_sub(range.start) }
+        SourceSpan {
+            offset: range.start,
+            length: range.end.saturating_sub(range.start),
+        }
     }
 }
 

@@ -22,7 +22,12 @@ impl Tally {
     pub fn new() -> Tally
         ensures { λ r. ⌜ r ≡ tallyOf [] ⌝ }
     {
-        Tally { lines: 0, lf: 0, cr: 0, cr_lf: 0 }
+        Tally {
+            lines: 0,
+            lf: 0,
+            cr: 0,
+            cr_lf: 0,
+        }
     }
 
     // The tally with a line more.
@@ -52,6 +57,9 @@ impl Tally {
         let lf = self.lf;
         let cr = self.cr;
         let cr_lf = self.cr_lf;
-        format!(heap, "Listed {bytes} bytes as {lines} lines, ended by {lf} LF, {cr} CR and {cr_lf} CR LF.\n")
+        format!(
+            heap,
+            "Listed {bytes} bytes as {lines} lines, ended by {lf} LF, {cr} CR and {cr_lf} CR LF.\n"
+        )
     }
 }

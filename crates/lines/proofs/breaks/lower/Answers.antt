@@ -12,6 +12,6 @@ pub returns : need.returns
 returns c =
     lowered-not (now (c .args .text)) (c .args .offset)
     (λ some wide. elim (c .else-offset-gt0 .came) [
-      else-offset-gt0·by·then-offset-gt0·else-break-width-eq2 w ↦ w .if-break-width-eq2 .left (w .break-width .ensures ∙ wide)
-    | else-offset-gt0·by·else-offset-gt0 w ↦ omega (arith, w .if-offset-gt0 .left, some)
+      | else-offset-gt0·by·then-offset-gt0·else-break-width-eq2 w ↦ w .if-break-width-eq2 .left (w .break-width .ensures ∙ wide)
+      | else-offset-gt0·by·else-offset-gt0 w ↦ omega (arith, w .if-offset-gt0 .left, some)
     ])

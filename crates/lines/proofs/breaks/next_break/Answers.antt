@@ -13,9 +13,12 @@ returns-then-width-eq0 c =
 
 pub cast-result-2 : need.cast-result-2
 cast-result-2 c =
-    omega (arith,
+    omega (
+      arith,
       fits (now (c .seen-bytes-text .result)) (c .args .from) _ _ (c .lower .ensures) (c .next-ending-start .ensures) _ (c .break-width-width .ensures),
-      ap length (c .seen-bytes-text .ensures), few-seen (now (c .args .source)))
+      ap length (c .seen-bytes-text .ensures),
+      few-seen (now (c .args .source)),
+    )
 
 pub returns : need.returns
 returns c =

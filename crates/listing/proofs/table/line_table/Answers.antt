@@ -18,7 +18,7 @@ loop-found-holds c = (
   c .new-cursor .ensures .input ∙ sym (c .seen-bytes-text .ensures),
   c .new-cursor .ensures .at,
   subst (λ tally. Going (now (c .seen-bytes-text .result)) (string-bytes (c .new-table .result)) tally 0) (sym (c .new-tally .ensures))
-  (subst (λ table. Going (now (c .seen-bytes-text .result)) table _ 0) (sym (c .new-table .ensures .bytes)) (going-first (now (c .seen-bytes-text .result)))),
+      (subst (λ table. Going (now (c .seen-bytes-text .result)) table _ 0) (sym (c .new-table .ensures .bytes)) (going-first (now (c .seen-bytes-text .result)))),
 )
 
 -- at a break
@@ -47,8 +47,7 @@ loop-found-less c =
 
 pub loop-found-again : need.loop-found-again
 loop-found-again c =
-    let at = need.at·loop-found-again c .In-Some in
-    (
+    let at = need.at·loop-found-again c .In-Some in (
       c .in-Some .ensures tt .input ∙ c .loop-found .inv .0,
       c .in-Some .ensures tt .stands ∙ sym (c .next-line-start-start .ensures),
       going-more (short at) (c .loop-found .inv .2) (c .in-Some .found) (told at) _ _ _ (c .ended-line-line .ensures) (c .with-tally .ensures) (c .in-Continue-push-row .ensures tt) _ (c .next-line-start-start .ensures),
