@@ -94,13 +94,8 @@ mod tests {
     #[test]
     fn missing_file_is_empty(rt: LibcRuntime) -> Result<(), Fail> {
         let mut buf = [7u8; 2];
-        check_eq(
-            fill_from_file(&rt, "no/such/file", &mut buf)?,
-            Filled {
-                count: 0,
-                cut: false,
-            },
-        )?;
+        let filled = fill_from_file(&rt, "no/such/file", &mut buf)?;
+        check(filled.count == 0 && !filled.cut)?;
         check_eq(buf, [7, 7])
     }
 }
