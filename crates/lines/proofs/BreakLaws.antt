@@ -180,7 +180,7 @@ pub few : (i : ℕ) (bs : List LineBreak) (n : ℕ) → Rising i bs n → i + le
 few i [] n r = omega arith
 few i (b ∷ bs) n r = omega (arith, r .0, r .1, few (past b) bs n (r .3))
 
-start-of : (o : Option LineBreak) (s : ℕ) → mapped past o ≡ Some s → (b : LineBreak) × (o ≡ Some b) × (past b ≡ s)
+pub start-of : (o : Option LineBreak) (s : ℕ) → mapped past o ≡ Some s → (b : LineBreak) × (o ≡ Some b) × (past b ≡ s)
 start-of None s is = let z : _≡_ {A = ℕ} 0 1 = cc in absurd (omega arith)
 start-of (Some b) s is = (b, refl, (cc))
 

@@ -23,7 +23,7 @@ use Rattle.lines.proofs.BreakLaws.{lowered-none, rising-by, lies, every-text, 
 use Rattle.lines.proofs.WidthRule.{width-rule}
 
 -- a break has at most two bytes, and none of two begins with the second byte of one
-two : (t : List ℕ) → width t ≤ 2
+pub two : (t : List ℕ) → width t ≤ 2
 two [] = omega arith
 two (c ∷ []) = grind (arith, tells)
 two (c ∷ d ∷ t) = grind (arith, tells)
@@ -206,15 +206,18 @@ module _ (t : List ℕ) (from : ℕ) where
 pub few-seen : (s : List ℕ) → length (seen s) ≤ 4294967295
 few-seen s = omega (arith, length-take (min (length s) 4294967295) s)
 
--- of a text that a call sees whole
+-- a text that a call sees whole
+pub seen-whole : (t : List ℕ) → length t ≤ 4294967295 → seen t ≡ t
+seen-whole t short = take-all (min (length t) 4294967295) t (omega arith)
+
 module _ (t : List ℕ) (o : ℕ) (short : length t ≤ 4294967295) where
   pub told-whole : (r : Option LineBreak) → r ≡ nextBreak (breaks (seen t)) o → r ≡ nextBreak (breaks t) o
-  told-whole r told = told ∙ ap (λ t. nextBreak (breaks t) o) (take-all (min (length t) 4294967295) t (omega arith))
+  told-whole r told = told ∙ ap (λ t. nextBreak (breaks t) o) (seen-whole t short)
 
   pub ends-within : (b : LineBreak) → Some b ≡ nextBreak (breaks (seen t)) o → past b ≤ length t
   ends-within b told = omega (arith, lies 0 (breaks t) (length t) (every-text width width-rule t .rising) (lineOf (breaks t) o) b (sym (told-whole (Some b) told)) .within)
 
-line-all : (i : ℕ) (bs : List LineBreak) (n : ℕ) → Rising i bs n → lineOf bs n ≡ length bs
+pub line-all : (i : ℕ) (bs : List LineBreak) (n : ℕ) → Rising i bs n → lineOf bs n ≡ length bs
 line-all i [] n r = refl
 line-all i (b ∷ bs) n r =
     let within = lies i (b ∷ bs) n r 0 b refl .within in
