@@ -7,7 +7,7 @@ use Prim.Native.Nat.{ℕ, zero, suc, _+_, _-_, _<_, _≤_, min}
 use native.Mathlib.Omega.{arith}
 use lib.Dec.{eqb, leb, ltb}
 use lib.ListN.{length, getD, take, drop}
-use Rattle.std.proofs.shelf.Lists.{drop-drop, drop-take, length-drop, take-take}
+use Rattle.std.proofs.shelf.Lists.{drop-drop, drop-take, length-drop, length-take, take-take}
 use Rattle.std.proofs.shelf.Tests.{cases-bool, cases-eq}
 use Rattle.std.proofs.shelf.Ways.{tells, leb-tells}
 use Rattle.std.specs.declared.option.Option.{Option}
@@ -213,3 +213,14 @@ module _ (t : List ℕ) (span : SourceSpan) (context : Context) where
         let f : Some (thePayload t (theWindow t span context)) ≡ Some p = sym (is ∙ reading-is t span context some-then) in
         let same : thePayload t (theWindow t span context) ≡ p = cc in
         subst (Holds t span) same (holds-here t span context some-then inner)
+
+-- the data is no longer than the text
+pub read-short : (t : List ℕ) (span : SourceSpan) (context : Context) (p : Payload) → Some p ≡ reading t span context → length (p .bytes) ≤ length t
+read-short t span context p is = ⊎-elim
+    (λ (none : hasNone (length t) (span .offset) (span .length) (context .before) ≡ true). let f : Some p ≡ None = is ∙ none-then t span context none in let z : _≡_ {A = ℕ} 0 1 = cc in absurd (omega arith))
+    (λ (some : hasNone (length t) (span .offset) (span .length) (context .before) ≡ false).
+    let f : Some (thePayload t (theWindow t span context)) ≡ Some p = sym (is ∙ reading-is t span context some) in
+    let same : thePayload t (theWindow t span context) ≡ p = cc in
+    let w = theWindow t span context in
+    omega (arith, ap (λ (p : Payload). length (p .bytes)) same, length-take (w .length) (drop (w .start) t), length-drop (w .start) t))
+    (cases-bool (hasNone (length t) (span .offset) (span .length) (context .before)))

@@ -16,10 +16,10 @@ use lines::records::Window;
 // The payload of a window: its numbers, and its data, which is a part of the caller's source and no copy.
 #[derive(Clone, Copy)]
 pub struct SpanContents<'a> {
-    data: &'a [u8],
-    span: SourceSpan,
-    line: u32,
-    column: u32,
+    bytes: &'a [u8],
+    extent: SourceSpan,
+    start_line: u32,
+    start_column: u32,
     line_count: u32,
 }
 
@@ -34,10 +34,10 @@ pub fn contents<'a>(source: &'a [u8], window: Window) -> Option<SpanContents<'a>
         return None;
     }
     Some(SpanContents {
-        data: &text[start..end],
-        span: SourceSpan::from((window.start, window.length)),
-        line: window.line,
-        column: window.column,
+        bytes: &text[start..end],
+        extent: SourceSpan::from((window.start, window.length)),
+        start_line: window.line,
+        start_column: window.column,
         line_count: window.line_count,
     })
 }
@@ -45,30 +45,30 @@ pub fn contents<'a>(source: &'a [u8], window: Window) -> Option<SpanContents<'a>
 impl<'a> SpanContents<'a> {
     // The bytes of the window.
     pub fn data(&self) -> &'a [u8]
-        ensures { λ r. ⌜ now r ≡ now (now (self .entry) .«data») ⌝ }
+        ensures { λ r. ⌜ now r ≡ now (now (self .entry) .bytes) ⌝ }
     {
-        self.data
+        self.bytes
     }
 
     // Where the window starts and how many bytes it has.
     pub fn span(&self) -> SourceSpan
-        ensures { λ r. ⌜ r ≡ now (self .entry) .span ⌝ }
+        ensures { λ r. ⌜ r ≡ now (self .entry) .extent ⌝ }
     {
-        self.span
+        self.extent
     }
 
     // The line of the window's start, from 0.
     pub fn line(&self) -> u32
-        ensures { λ r. ⌜ r ≡ now (self .entry) .line ⌝ }
+        ensures { λ r. ⌜ r ≡ now (self .entry) .«start_line» ⌝ }
     {
-        self.line
+        self.start_line
     }
 
     // The column of the window's start, from 0.
     pub fn column(&self) -> u32
-        ensures { λ r. ⌜ r ≡ now (self .entry) .column ⌝ }
+        ensures { λ r. ⌜ r ≡ now (self .entry) .«start_column» ⌝ }
     {
-        self.column
+        self.start_column
     }
 
     // How many breaks of the source end before the window's end.
@@ -82,12 +82,13 @@ impl<'a> SpanContents<'a> {
     pub fn line_column_at(&self, offset: u32) -> Option<Place>
         ensures { λ r. ⌜ r ≡ lookUp (shown (now (self .entry))) offset ⌝ }
     {
-        let start = self.span.offset();
-        if offset as u64 > start as u64 + self.span.len() as u64 {
+        let span = self.span();
+        if offset as u64 > span.offset() as u64 + span.len() as u64 {
             return None;
         }
-        let rel = lower(self.data, offset.saturating_sub(start) as usize);
-        Some(place_after(self.data, rel, self.line, self.column))
+        let at = offset.saturating_sub(span.offset()) as usize;
+        let rel = lower(self.data(), at);
+        Some(place_after(self.data(), rel, self.line(), self.column()))
     }
 }
 
