@@ -19,7 +19,7 @@ use Rattle.lines.specs.Laws.{Rising}
 use Rattle.lines.specs.LineRule.{endsLine, isPair, width}
 use Rattle.lines.specs.Endings.{isPlain, nextEnding}
 use Rattle.lines.specs.declared.records.LineBreak.{LineBreak}
-use Rattle.lines.proofs.BreakLaws.{lowered-none, rising-by, lies, every-text, every-list}
+use Rattle.lines.proofs.BreakLaws.{lowered-none, rising-by, Lies, lies, every-text, every-list}
 use Rattle.lines.proofs.WidthRule.{width-rule}
 
 -- a break has at most two bytes, and none of two begins with the second byte of one
@@ -230,3 +230,14 @@ none-after (b ∷ bs) = none-after bs
 -- no break is left at the end
 pub over : (t : List ℕ) → nextBreak (breaks t) (length t) ≡ None
 over t = ap (breakEnding (breaks t)) (line-all 0 (breaks t) (length t) (every-text width width-rule t .rising)) ∙ none-after (breaks t)
+
+-- the next break from o on: where it lies, and that it moves on
+module _ (t : List ℕ) (o : ℕ) (b : LineBreak) (told : Some b ≡ nextBreak (breaks t) o) where
+  pub next-lies : Lies 0 (breaks t) (length t) (lineOf (breaks t) o) b
+  next-lies = lies 0 (breaks t) (length t) (every-text width width-rule t .rising) (lineOf (breaks t) o) b (sym told)
+
+  pub next-moves : o < past b
+  next-moves = ⊎-elim
+      (λ ends. omega (arith, ends .1))
+      (λ before. absurd (omega (arith, next-lies .next-line, every-list (breaks t) (length t) (every-text width width-rule t .rising) .never-falls (past b) o (omega (arith, before .1)))))
+      (leb-tells o (b .end))

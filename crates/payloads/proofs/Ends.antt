@@ -42,7 +42,7 @@ cut-out (b ∷ bs) e out = ⊎-elim
     (leb-tells (suc (b .start)) e)
 
 -- inside a break the rest of it is
-cut-in : (i : ℕ) (bs : List LineBreak) (n : ℕ) → Rising i bs n → (k : ℕ) (b : LineBreak) → breakEnding bs k ≡ Some b → (e : ℕ) → b .start < e → e ≤ b .end → cutAfter bs e ≡ past b
+pub cut-in : (i : ℕ) (bs : List LineBreak) (n : ℕ) → Rising i bs n → (k : ℕ) (b : LineBreak) → breakEnding bs k ≡ Some b → (e : ℕ) → b .start < e → e ≤ b .end → cutAfter bs e ≡ past b
 cut-in i [] n r k b is e lo hi = let z : _≡_ {A = ℕ} 0 1 = cc in absurd (omega arith)
 cut-in i (a ∷ bs) n r zero b is e lo hi =
     let same : a ≡ b = cc in
@@ -65,7 +65,7 @@ pub cut-same : (t : List ℕ) (e : ℕ) → (0 < e → width (drop (e - 1) t) �
 cut-same t e single = sym (cut-out (breaks t) e (sym (lowered-not t e single)))
 
 -- a cut at or before i takes nothing of the breaks from i on, and all of them start after it
-cut-none : (i : ℕ) (bs : List LineBreak) (n e : ℕ) → Rising i bs n → e ≤ i → (cutAfter bs e ≡ e) × (startingFrom bs e ≡ bs)
+pub cut-none : (i : ℕ) (bs : List LineBreak) (n e : ℕ) → Rising i bs n → e ≤ i → (cutAfter bs e ≡ e) × (startingFrom bs e ≡ bs)
 cut-none i [] n e r le = (refl, refl)
 cut-none i (b ∷ bs) n e r le =
     let x = r .0 in let y = r .1 in
@@ -140,16 +140,16 @@ line-min t o = ⊎-elim
     (leb-tells o (length t))
 
 -- a line up to that of an offset is there
-there : (bs : List LineBreak) (k : ℕ) → k ≤ length bs → (s : ℕ) × (lineStart bs k ≡ Some s)
-there bs zero le = (0, refl)
-there [] (suc k) le = absurd (omega arith)
-there (b ∷ bs) (suc zero) le = (past b, refl)
-there (b ∷ bs) (suc (suc k)) le = there bs (suc k) (omega arith)
+pub line-there : (bs : List LineBreak) (k : ℕ) → k ≤ length bs → (s : ℕ) × (lineStart bs k ≡ Some s)
+line-there bs zero le = (0, refl)
+line-there [] (suc k) le = absurd (omega arith)
+line-there (b ∷ bs) (suc zero) le = (past b, refl)
+line-there (b ∷ bs) (suc (suc k)) le = line-there bs (suc k) (omega arith)
 
 -- the opening of a window with lines before
 module _ (t : List ℕ) (o b line r : ℕ) (some : b ≡ 0 → ⊥) (line-is : line ≡ windowLine (breaks t) o b) (is : r ≡ valueOr (lineStart (breaks t) line) (length t)) where
   start-at : (s : ℕ) × (lineStart (breaks t) line ≡ Some s)
-  start-at = there (breaks t) line (omega (arith, line-is, line-few (breaks t) o))
+  start-at = line-there (breaks t) line (omega (arith, line-is, line-few (breaks t) o))
 
   r-is : r ≡ start-at .0
   r-is = is ∙ ap (λ s. valueOr s (length t)) (start-at .1)

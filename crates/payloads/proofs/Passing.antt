@@ -14,7 +14,8 @@ use Rattle.lines.specs.LineRule.{width}
 use Rattle.lines.specs.Payloads.{columnAfter, placeAfter}
 use Rattle.lines.specs.declared.records.LineBreak.{LineBreak}
 use Rattle.lines.specs.declared.records.Place.{Place}
-use Rattle.lines.proofs.BreakLaws.{line-none, Lies, lies, drop-some, drop-none, few, lower-law, every-text, every-list}
+use Rattle.lines.proofs.BreakLaws.{line-none, Lies, drop-some, drop-none, few, lower-law, every-text}
+use Rattle.lines.proofs.Finding.{next-lies}
 use Rattle.lines.proofs.WidthRule.{width-rule}
 
 pub rising : (t : List ℕ) → Rising 0 (breaks t) (length t)
@@ -33,7 +34,7 @@ passing-first d r line column =
 module _ {d : List ℕ} {r line column : ℕ} {p : Place} {at : ℕ} (h : Passing d r line column p at) where
   module _ (b : LineBreak) (told : Some b ≡ nextBreak (breaks d) at) where
     lie : Lies 0 (breaks d) (length d) (lineOf (breaks d) at) b
-    lie = lies 0 (breaks d) (length d) (rising d) (lineOf (breaks d) at) b (sym told)
+    lie = next-lies d at b told
 
     first : drop (lineOf (breaks d) at) (breaks d) ≡ b ∷ drop (lineOf (breaks d) at + 1) (breaks d)
     first = drop-some (breaks d) (lineOf (breaks d) at) b (sym told)
@@ -49,13 +50,6 @@ module _ {d : List ℕ} {r line column : ℕ} {p : Place} {at : ℕ} (h : Passin
 
     pub passing-few : (p .line + 1 ≤ line + length d) × (past b ≤ length d)
     passing-few = (omega (arith, ap length first, h .lines, few 0 (breaks d) (length d) (rising d)), omega (arith, lie .within))
-
-    -- a break that does not end before `at` moves on
-    pub moves : at < past b
-    moves = ⊎-elim
-        (λ ends. omega (arith, ends .1))
-        (λ before. absurd (omega (arith, lie .next-line, every-list (breaks d) (length d) (rising d) .never-falls (past b) at (omega (arith, before .1)))))
-        (leb-tells at (b .end))
 
   pub passing-all : None ≡ nextBreak (breaks d) at → p ≡ record { line = line + length (breaks d); column = columnAfter r (column + r) (breaks d) }
   passing-all told =

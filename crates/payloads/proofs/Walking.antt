@@ -67,7 +67,7 @@ nearing-more t k at within lt = ⊎-elim
     (cases-eq (lineOf (breaks t) at + 1) k))
     (starts-there t at within)
 
-no-line : (bs : List LineBreak) (k : ℕ) → length bs < k → lineStart bs k ≡ None
+pub no-line : (bs : List LineBreak) (k : ℕ) → length bs < k → lineStart bs k ≡ None
 no-line bs zero lt = absurd (omega arith)
 no-line [] (suc k) lt = refl
 no-line (b ∷ bs) (suc zero) lt = absurd (omega arith)

@@ -60,7 +60,7 @@ pub record Ended (t : List ℕ) (e end : ℕ) : Type 0 where
   pub out : lowered (breaks t) end ≡ end
   pub from : (x : ℕ) → x ≤ e → x ≤ length t → x ≤ end
 
-ended-cut : (t : List ℕ) (e : ℕ) → e ≤ length t → Ended t e (cutAfter (breaks t) e)
+pub ended-cut : (t : List ℕ) (e : ℕ) → e ≤ length t → Ended t e (cutAfter (breaks t) e)
 ended-cut t e le = ⊎-elim
     (λ some. ⊎-elim
     (λ (pair : width (drop (e - 1) t) ≡ 2).
@@ -136,7 +136,7 @@ part-of t s m o l from to =
     ∙ take-take l (m - (o - s)) (drop (o - s) (drop s t)) (omega arith)
     ∙ ap (take l) (drop-drop (o - s) s t ∙ ap (λ j. drop j t) at)
 
-abbrev theWindow : List ℕ → SourceSpan → Context → Window
+abbrev pub theWindow : List ℕ → SourceSpan → Context → Window
 theWindow t span context = windowAt (breaks t) (windowLine (breaks t) (span .offset) (context .before)) (windowStart (breaks t) (span .offset) (context .before)) (windowEnd (length t) (breaks t) (span .offset + span .length) (context .after))
 
 abbrev thePayload : List ℕ → Window → Payload

@@ -6,8 +6,8 @@ use lib.ListN.{length, take}
 use Rattle.std.proofs.shelf.Lists.{length-take, take-all}
 use Rattle.lines.specs.Breaks.{breaks, nextBreak, past, seen}
 use Rattle.lines.specs.Payloads.{columnAfter}
-use Rattle.lines.proofs.Finding.{seen-whole}
-use Rattle.payloads.proofs.Passing.{Passing, passing-first, passing-more, passing-few, passing-all, moves, take-min}
+use Rattle.lines.proofs.Finding.{seen-whole, next-moves}
+use Rattle.payloads.proofs.Passing.{Passing, passing-first, passing-more, passing-few, passing-all, take-min}
 use Rattle.payloads.proofs.contents.place_after.Needs as need
 
 pub loop-found-holds : need.loop-found-holds
@@ -26,7 +26,7 @@ add-place-in-Some c =
 pub loop-found-less : need.loop-found-less
 loop-found-less c =
     let few = passing-few (c .loop-found .inv .1) (c .in-Some .found) (c .in-Some .ensures tt .told) in
-    let on = moves (c .loop-found .inv .1) (c .in-Some .found) (c .in-Some .ensures tt .told) in
+    let on = next-moves (now (c .loop-found .cursor .input)) (c .loop-found .cursor .at) (c .in-Some .found) (c .in-Some .ensures tt .told) in
     omega (arith, ap length (c .in-Some .ensures tt .input), c .in-Some .ensures tt .stands, few .1, on)
 
 pub loop-found-again : need.loop-found-again

@@ -1,0 +1,2 @@
+pub mod Lawfully
+pub mod Served

@@ -1,0 +1,4 @@
+pub mod Counting
+pub mod Nearing
+pub mod Spots
+pub mod WindowRead
