@@ -19,16 +19,12 @@ use Rattle.lines.specs.Windows.{cutAfter, windowEnd}
 use Rattle.lines.specs.declared.records.LineBreak.{LineBreak}
 use Rattle.lines.proofs.BreakLaws.{line-none, Lies, lies, few, every-list}
 use Rattle.lines.proofs.Finding.{line-all}
-use Rattle.payloads.proofs.Ends.{cut-none, cut-more, cut-same, end-trailing}
+use Rattle.payloads.proofs.Ends.{cut-ge, cut-none, cut-more, cut-same, end-trailing}
 use Rattle.payloads.proofs.Passing.{rising}
 use Rattle.payloads.proofs.Stepping.{ends-pair, from-start, start-le}
 use Rattle.payloads.proofs.Walking.{line-few, no-line}
 use Rattle.payloads.proofs.Whole.{Ended, ended-cut, ended}
 use Rattle.line_maps.proofs.Counting.{none-length}
-
-cut-ge : (bs : List LineBreak) (e : ℕ) → e ≤ cutAfter bs e
-cut-ge [] e = omega arith
-cut-ge (b ∷ bs) e = let rest = cut-ge bs e in grind (arith, tells)
 
 -- break k starts before e exactly if it is counted at the cut after e
 starts-before : (i : ℕ) (bs : List LineBreak) (n e : ℕ) → Rising i bs n → (k : ℕ) (b : LineBreak) → breakEnding bs k ≡ Some b → b .start < e → k < lineOf bs (cutAfter bs e)

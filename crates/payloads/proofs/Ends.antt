@@ -74,6 +74,11 @@ cut-none i (b ∷ bs) n e r le =
     let on : leb e (b .start) ≡ true = grind (arith, tells) in
     (simp out (rest .0), simp on (ap (λ others. b ∷ others) (rest .1)))
 
+-- a cut takes no less than what it is after
+pub cut-ge : (bs : List LineBreak) (e : ℕ) → e ≤ cutAfter bs e
+cut-ge [] e = omega arith
+cut-ge (b ∷ bs) e = let rest = cut-ge bs e in grind (arith, tells)
+
 -- the breaks that start after the span are those from the line of its cut on
 pub trailing : (i : ℕ) (bs : List LineBreak) (n e : ℕ) → Rising i bs n → startingFrom bs e ≡ drop (lineOf bs (cutAfter bs e)) bs
 trailing i [] n e r = refl
@@ -106,10 +111,6 @@ trailing i (b ∷ bs) n e r = ⊎-elim
     let zero-on = line-none (b .start) (b ∷ bs) n e (omega arith, r .1, r .2, r .3) (omega arith) in
     none .1 ∙ sym (ap (λ k. drop k (b ∷ bs)) (ap (lineOf (b ∷ bs)) (none .0) ∙ zero-on)))
     (leb-tells (suc (b .start)) e)
-  where
-    cut-ge : (bs : List LineBreak) (e : ℕ) → e ≤ cutAfter bs e
-    cut-ge [] e = omega arith
-    cut-ge (b ∷ bs) e = let rest = cut-ge bs e in grind (arith, tells)
 
 later : (bs : List LineBreak) (k j : ℕ) → breakEnding (drop k bs) j ≡ breakEnding bs (k + j)
 later bs zero j = let same : 0 + j ≡ j = omega arith in sym (ap (breakEnding bs) same)

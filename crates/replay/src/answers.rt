@@ -7,9 +7,16 @@ ghost use Prim.Native.Nat.{_<_};
 ghost use Rattle.std.specs.Vec.{made};
 use crate::faults::fault_of;
 use crate::tally::Tally;
+use call_runs::calls::Call;
+use call_runs::calls::Told;
+use call_runs::calls::ToldPartialEq;
+use call_runs::run::run;
+use line_maps::plain::PlainScan;
+use line_maps::plain::PlainScanMap;
 use lines::records::Context;
 use lines::records::SourceSpan;
 use lines::records::SpanFromPair;
+use lines::records::Window;
 use payloads::contents::SpanContents;
 use payloads::reader::fresh_reading;
 use std::alloc::Global;
@@ -73,13 +80,20 @@ impl Answers {
         Ok(())
     }
 
+    // A reading agrees if the fresh reading and the read over a line map do.
     fn replay_read(&mut self, numbers: [u64; 10], count: usize) -> Result<(), AnyError> {
         let span = span_of(numbers)?;
         let context = context_of(numbers)?;
         let source = self.source.as_slice();
-        let agrees = match fresh_reading(source, span, context) {
-            Some(payload) => count == 9 && has(&payload, numbers),
-            None => count == 4,
+        let agrees = match (
+            fresh_reading(source, span, context),
+            ask(source, Call::Read(span, context)),
+        ) {
+            (Some(payload), Told::Shown(Some(window))) => count == 9
+                && has(&payload, numbers)
+                && is_of(&payload, window),
+            (None, Told::Shown(None)) => count == 4,
+            _ => false,
         };
         let fault = fault_of(source, span, context);
         self.tally.reads = self.tally.reads.saturating_add(1);
@@ -87,6 +101,7 @@ impl Answers {
         Ok(())
     }
 
+    // A look-up agrees if it does in the payload and, from the payload's start on, by a locate over a line map.
     fn replay_look_up(&mut self, numbers: [u64; 10], count: usize) -> Result<(), AnyError> {
         let span = span_of(numbers)?;
         let context = context_of(numbers)?;
@@ -94,7 +109,11 @@ impl Answers {
         let source = self.source.as_slice();
         let agrees = match fresh_reading(source, span, context) {
             Some(payload) => match payload.line_column_at(at) {
-                Some(place) => count == 7 && place.line == numbers[5] && place.column == numbers[6],
+                Some(place) => {
+                    let located = at < payload.span().offset()
+                        || ask(source, Call::Locate(at)) == Told::Located(Some(place));
+                    count == 7 && place.line == numbers[5] && place.column == numbers[6] && located
+                }
                 None => count == 5,
             },
             None => false,
@@ -104,6 +123,24 @@ impl Answers {
         self.tally.count(agrees, fault);
         Ok(())
     }
+}
+
+// What a call on the plain scan of the source tells.
+fn ask(source: &[u8], call: Call) -> Told {
+    let mut map = PlainScan::new(source);
+    let mut told = [Told::Nothing; 1];
+    let _ = run(&mut map, &[call], &mut told);
+    told[0]
+}
+
+// Whether a window has the numbers of a payload.
+fn is_of(payload: &SpanContents, window: Window) -> bool {
+    let span = payload.span();
+    span.offset() == window.start
+        && span.len() == window.length
+        && payload.line() == window.line
+        && payload.column() == window.column
+        && payload.line_count() == window.line_count
 }
 
 fn span_of(numbers: [u64; 10]) -> Result<SourceSpan, AnyError> {
