@@ -53,6 +53,9 @@ module _ (t : List ℕ) (calls : List Call) (told : List Told) (each : told ≡ 
     gives : flattened (mapped (payload t) w) ≡ reading t span context
     gives = ap (λ w. flattened (mapped (payload t) w)) told-window
 
+    agrees-at : (p : Payload) → flattened (mapped (payload t) w) ≡ Some p → Agrees t p
+    agrees-at p is = read-agrees t span context p (sym is ∙ gives)
+
   some-payload : (span : SourceSpan) (context : Context) → span .offset + span .length ≤ length t → (r : Option Payload) → r ≡ reading t span context → (p : Payload) × (reading t span context ≡ Some p) × Holds t span p
   some-payload span context inner None is = absurd (read-answers t span context inner is)
   some-payload span context inner (Some p) is = (p, sym is, read-holds t span context inner p is)
@@ -62,10 +65,11 @@ module _ (t : List ℕ) (calls : List Call) (told : List Told) (each : told ≡ 
     each = each;
     fresh = gives;
     both-none = λ i span context w was none. told-window i span context w was ∙ no-window t span context none;
-    agree = λ i j span context w p x was is within here.
-        let same : Some p ≡ reading t span context = sym is ∙ gives i span context w was in
-        let law = read-agrees t span context p same in
-        (told-at j (Locate x) here ∙ ap (λ o. Some (Located o)) (sym (law .looked-up x within)), law .read-there x within ∙ sym (law .looked-up x within));
+    agree = λ i span context w p x was is within.
+        let law = agrees-at i span context w was p is in
+        law .read-there x within ∙ sym (law .looked-up x within);
+    located = λ i j span context w p x was is within here.
+        told-at j (Locate x) here ∙ ap (λ o. Some (Located o)) (sym (agrees-at i span context w was p is .looked-up x within));
     holds = λ i span context w was inner.
         let found = some-payload span context inner (reading t span context) refl in
         (found .0, gives i span context w was ∙ found .1, found .2);

@@ -36,7 +36,8 @@ pub record Lawful (t : List ℕ) (calls : List Call) (told : List Told) : Type 0
   -- what a read told gives, from the source, exactly the payload of a fresh reading: none exactly where that is none
   pub fresh : (i : ℕ) (span : SourceSpan) (context : Context) (w : Option Window) → WasRead calls told i span context w → flattened (mapped (payload t) w) ≡ reading t span context
   pub both-none : (i : ℕ) (span : SourceSpan) (context : Context) (w : Option Window) → WasRead calls told i span context w → reading t span context ≡ None → w ≡ None
-  -- at each offset of that payload its look-up, a locate anywhere in the run and a fresh reading there say the same
-  pub agree : (i j : ℕ) (span : SourceSpan) (context : Context) (w : Option Window) (p : Payload) (x : ℕ) → WasRead calls told i span context w → flattened (mapped (payload t) w) ≡ Some p → Within p x → at calls j ≡ Some (Locate x) → (at told j ≡ Some (Located (lookUp p x))) × (mapped startPlace (reading t (spanOf x 0) bare) ≡ lookUp p x)
+  -- at each offset of that payload its look-up and a fresh reading there say the same, and so does a locate anywhere in the run
+  pub agree : (i : ℕ) (span : SourceSpan) (context : Context) (w : Option Window) (p : Payload) (x : ℕ) → WasRead calls told i span context w → flattened (mapped (payload t) w) ≡ Some p → Within p x → mapped startPlace (reading t (spanOf x 0) bare) ≡ lookUp p x
+  pub located : (i j : ℕ) (span : SourceSpan) (context : Context) (w : Option Window) (p : Payload) (x : ℕ) → WasRead calls told i span context w → flattened (mapped (payload t) w) ≡ Some p → Within p x → at calls j ≡ Some (Locate x) → at told j ≡ Some (Located (lookUp p x))
   -- a span wholly inside the source is answered, with data that holds every byte of it
   pub holds : (i : ℕ) (span : SourceSpan) (context : Context) (w : Option Window) → WasRead calls told i span context w → span .offset + span .length ≤ length t → (p : Payload) × (flattened (mapped (payload t) w) ≡ Some p) × Holds t span p
