@@ -1,4 +1,6 @@
 // Reads a table of label lines and faults from standard input and prints what each row gives.
+#![tactic(auto)]
+
 mod hex;
 mod rows;
 

@@ -1,4 +1,6 @@
 // Runs calls with answers over line maps, among them an odd one.
+#![tactic(auto)]
+
 #[cfg(test)]
 mod tests {
     use answer_pages::page::answer_page;

@@ -1,4 +1,6 @@
 // Readings and look-ups over a C boundary, for programs in other languages that compare or measure.
+#![tactic(auto)]
+
 ghost use Rattle.std.specs.Prelude.{◌≡◌};
 ghost use Rattle.lines.specs.Breaks.{seen};
 ghost use Rattle.lines.specs.Spans.{span_of};

@@ -1,4 +1,6 @@
 // Reading into a buffer of a fixed size.
+#![tactic(auto)]
+
 ghost use Rattle.std.specs.Prelude.{◌≡◌, ◌≤◌, T, length, IfOk};
 
 use std::io::{ErrorKind, Read};

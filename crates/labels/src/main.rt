@@ -1,5 +1,7 @@
 // Answers the label lines of standard input over source.txt in the current folder: a line for each, with the window of
 // the label or its fault.
+#![tactic(auto)]
+
 use answer_pages::page::answer_page;
 use anyhow::anyhow;
 use inputs::{fill, fill_from_file};

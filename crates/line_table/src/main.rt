@@ -1,4 +1,6 @@
 // Lists the lines of source.txt in the current folder: where each starts, how long it is and how it ends.
+#![tactic(auto)]
+
 use anyhow::anyhow;
 use inputs::fill_from_file;
 use listing::table::line_table;

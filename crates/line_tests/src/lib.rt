@@ -1,4 +1,6 @@
 // Runs the finding of breaks on examples.
+#![tactic(auto)]
+
 use lines::cursor::LineBreaks;
 use lines::records::LineBreak;
 

@@ -1,4 +1,6 @@
 // Lines of a source: what ends them, and how the next break is found.
+#![tactic(auto)]
+
 pub mod breaks;
 pub mod cursor;
 pub mod endings;

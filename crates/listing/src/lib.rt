@@ -1,4 +1,6 @@
 // The line table: a row for each line of a source.
+#![tactic(auto)]
+
 pub mod line;
 pub mod table;
 pub mod tally;

@@ -1,4 +1,6 @@
 // Runs calls over line maps, among them an odd one.
+#![tactic(auto)]
+
 pub mod forgetful;
 
 #[cfg(test)]

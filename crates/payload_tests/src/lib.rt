@@ -1,4 +1,6 @@
 // Runs readings, payloads and look-ups on examples.
+#![tactic(auto)]
+
 use lines::records::{Context, Place, SourceSpan, Window};
 use payloads::contents::{SpanContents, contents};
 use payloads::reader::fresh_reading;

@@ -1,4 +1,6 @@
 // Replays a fixed list of the original's answers from standard input and says what agrees and what differs as intended.
+#![tactic(auto)]
+
 mod answers;
 mod faults;
 mod tally;
