@@ -13,12 +13,12 @@ use Rattle.c_boundary.proofs.port_read.Goals.{In-Some}
 is : (c : In-Some) → Some (shown c.in-Some.read) ≡ reading (seen c.args.source.now) (span_of c.args.offset c.args.length) (context_of c.args.before c.args.after)
 is c = c.in-Some.ensures.told ∙ ap (λ s. reading (seen c.args.source.now) s (context_of c.args.before c.args.after)) c.from.ensures
 
-pub overflow-cast-out : goal.overflow-cast-out
-overflow-cast-out c =
+pub overflow_cast-out : goal.overflow_cast-out
+overflow_cast-out c =
     omega (
       arith,
       ap length c.data-data.ensures,
-      read_short (seen c.args.source.now) (span_of c.args.offset c.args.length) (context_of c.args.before c.args.after) (shown c.in-Some.read) (is (goal.at.overflow-cast-out c).In-Some),
+      read_short (seen c.args.source.now) (span_of c.args.offset c.args.length) (context_of c.args.before c.args.after) (shown c.in-Some.read) (is (goal.at.overflow_cast-out c).In-Some),
       few_seen c.args.source.now,
     )
 

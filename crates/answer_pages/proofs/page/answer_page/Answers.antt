@@ -12,13 +12,13 @@ returns g c =
     let m = g.M.LineMap in
     let t = m.text c.args.map.now in
     let lines = labels_in (seen c.args.input.now) in
-    let asked : map asked_by c.as-slice.result.now ≡ slots_from 0 lines = ap (map asked_by) c.as-slice.ensures.value ∙ c.in-ok-calls.ensures.0 in
-    let room : length c.as-slice.result.now * 55 ≤ length c.as-mut-slice.result.now =
-    omega (arith, c.as-slice.ensures.len, c.as-mut-slice.ensures.len, c.in-ok-slots.ensures.len, c.len-count.ensures) in
+    let asked : map asked_by c.as_slice.result.now ≡ slots_from 0 lines = ap (map asked_by) c.as_slice.ensures.value ∙ c.in_ok-calls.ensures.0 in
+    let room : length c.as_slice.result.now * 55 ≤ length c.as_mut_slice.result.now =
+    omega (arith, c.as_slice.ensures.len, c.as_mut_slice.ensures.len, c.in_ok-slots.ensures.len, c.len-count.ensures) in
     record {
-      page = IfOk-weaker c.answer-calls.result _ _
-          (λ page is. is ∙ page_of t _ c.as-mut-slice.result.now c.as-slice.result.now _ lines (λ line text. line_short t line text (m.short c.args.map.now)) asked room refl refl)
-          c.answer-calls.ensures.page;
-      kept = c.answer-calls.ensures.kept;
-      onward = never_lower c.as-slice.result.now 0 lines _ _ asked c.answer-calls.ensures.went;
+      page = IfOk-weaker c.answer_calls.result _ _
+          (λ page is. is ∙ page_of t _ c.as_mut_slice.result.now c.as_slice.result.now _ lines (λ line text. line_short t line text (m.short c.args.map.now)) asked room refl refl)
+          c.answer_calls.ensures.page;
+      kept = c.answer_calls.ensures.kept;
+      onward = never_lower c.as_slice.result.now 0 lines _ _ asked c.answer_calls.ensures.went;
     }

@@ -6,7 +6,7 @@ use Rattle.answer_pages.proofs.page.gather.Goals as goal
 
 pub loop-one-preserved : goal.loop-one-preserved
 loop-one-preserved c =
-    gathered_more _ _ _ _ _ _ _ _ c.loop-one-test.true c.loop-one.invariant c.in-ok-push-told.ensures
+    gathered_more _ _ _ _ _ _ _ _ c.loop-one-test.true c.loop-one.invariant c.in_ok-push_told.ensures
     (take_rest c.loop-one.rest.now c.min.result ∙ drop_min c.loop-one.rest.now 55 c.min.result c.min.ensures)
 
 pub returns : goal.returns

@@ -7,37 +7,37 @@ use Rattle.answer_pages.specs.Pages.{labels_in}
 use Rattle.answer_pages.specs.Slots.{slots_from, asked_by}
 use Rattle.answer_pages.proofs.Asking.{Asking, asking_first, from, asking_more, asked_last, asked_all}
 use Rattle.answer_pages.proofs.page.label_calls.Goals as goal
-use Rattle.answer_pages.proofs.page.label_calls.Goals.{In-Some, then-start-text+in-ok-push-call-2, else-start-text}
+use Rattle.answer_pages.proofs.page.label_calls.Goals.{In-Some, then-start-text+in_ok-push_call-2, else-start-text}
 
 short : (input t : List ℕ) → t ≡ seen input → length t ≤ 4294967295
 short input t is = omega (arith, ap length is, few_seen input)
 
 pub loop-found-init : goal.loop-found-init
 loop-found-init c = (
-  subst (Counted c.seen-bytes-text.result.now c.new-cursor.result.input.now c.new-cursor.result.at) (sym c.new-calls.ensures.len)
-      (counted_first c.seen-bytes-text.result.now _ _ (c.new-cursor.ensures.input ∙ sym c.seen-bytes-text.ensures) c.new-cursor.ensures.at),
-  subst (λ n. Asking c.seen-bytes-text.result.now (map asked_by (vec_items c.new-calls.result)) n 0) (sym c.new-calls.ensures.len)
-      (subst (λ l. Asking c.seen-bytes-text.result.now (map asked_by l) 0 0) (sym c.new-calls.ensures.items) (asking_first c.seen-bytes-text.result.now)),
+  subst (Counted c.seen_bytes-text.result.now c.new-cursor.result.input.now c.new-cursor.result.at) (sym c.new-calls.ensures.len)
+      (counted_first c.seen_bytes-text.result.now _ _ (c.new-cursor.ensures.input ∙ sym c.seen_bytes-text.ensures) c.new-cursor.ensures.at),
+  subst (λ n. Asking c.seen_bytes-text.result.now (map asked_by (vec_items c.new-calls.result)) n 0) (sym c.new-calls.ensures.len)
+      (subst (λ l. Asking c.seen_bytes-text.result.now (map asked_by l) 0 0) (sym c.new-calls.ensures.items) (asking_first c.seen_bytes-text.result.now)),
   c.new-cursor.ensures.at,
 )
 
 -- at a break
-here : (c : In-Some) → break_ending (breaks c.seen-bytes-text.result.now) (vec_len c.loop-found.calls) ≡ Some c.in-Some.found
+here : (c : In-Some) → break_ending (breaks c.seen_bytes-text.result.now) (vec_len c.loop-found.calls) ≡ Some c.in-Some.found
 here c = is_break c.loop-found.invariant.0 c.in-Some.found c.in-Some.ensures.told
 
 starts : (c : In-Some) → c.loop-found.start ≤ c.in-Some.found.start
 starts c = from c.loop-found.invariant.1 c.in-Some.found (here c)
 
-ends : (c : In-Some) → c.in-Some.found.start < length c.seen-bytes-text.result.now
+ends : (c : In-Some) → c.in-Some.found.start < length c.seen_bytes-text.result.now
 ends c = inside c.loop-found.invariant.0 c.in-Some.found c.in-Some.ensures.told
 
-few : (c : In-Some) → vec_len c.loop-found.calls + 1 ≤ length c.seen-bytes-text.result.now
+few : (c : In-Some) → vec_len c.loop-found.calls + 1 ≤ length c.seen_bytes-text.result.now
 few c = few_lines c.loop-found.invariant.0 c.in-Some.found c.in-Some.ensures.told
 
-pub push-call-requires : goal.push-call-requires
-push-call-requires c =
-    let at = (goal.at.push-call-requires c).In-Some in
-    record { few = omega (arith, few at, short c.args.input.now _ c.seen-bytes-text.ensures); start = starts at; end = omega (arith, ends at) }
+pub push_call-requires : goal.push_call-requires
+push_call-requires c =
+    let at = (goal.at.push_call-requires c).In-Some in
+    record { few = omega (arith, few at, short c.args.input.now _ c.seen_bytes-text.ensures); start = starts at; end = omega (arith, ends at) }
 
 pub loop-found-smaller : goal.loop-found-smaller
 loop-found-smaller c =
@@ -47,35 +47,35 @@ loop-found-smaller c =
 pub loop-found-preserved : goal.loop-found-preserved
 loop-found-preserved c =
     let at = (goal.at.loop-found-preserved c).In-Some in
-    let pushed = c.in-ok-push-call.ensures in (
-      subst (Counted c.seen-bytes-text.result.now c.next.new.self.input.now c.next.new.self.at) (sym pushed.1)
+    let pushed = c.in_ok-push_call.ensures in (
+      subst (Counted c.seen_bytes-text.result.now c.next.new.self.input.now c.next.new.self.at) (sym pushed.1)
           (counted_more c.loop-found.invariant.0 c.in-Some.found c.in-Some.ensures.told _ _ c.in-Some.ensures.input c.in-Some.ensures.stands),
-      subst (λ n. Asking c.seen-bytes-text.result.now (map asked_by (vec_items c.push-call.new.calls)) n c.next-line-start-start.result) (sym pushed.1)
-          (asking_more c.loop-found.invariant.1 c.in-Some.found (here at) _ _ refl pushed.0 _ c.next-line-start-start.ensures),
-      c.in-Some.ensures.stands ∙ sym c.next-line-start-start.ensures,
+      subst (λ n. Asking c.seen_bytes-text.result.now (map asked_by (vec_items c.push_call.new.calls)) n c.next_line_start-start.result) (sym pushed.1)
+          (asking_more c.loop-found.invariant.1 c.in-Some.found (here at) _ _ refl pushed.0 _ c.next_line_start-start.ensures),
+      c.in-Some.ensures.stands ∙ sym c.next_line_start-start.ensures,
     )
 
 -- at the end
-pub push-call-requires-then-start-text : goal.push-call-requires-then-start-text
-push-call-requires-then-start-text c = record {
-  few = omega (arith, lines_fit c.loop-found.invariant.0, short c.args.input.now _ c.seen-bytes-text.ensures);
+pub push_call-requires-then-start-text : goal.push_call-requires-then-start-text
+push_call-requires-then-start-text c = record {
+  few = omega (arith, lines_fit c.loop-found.invariant.0, short c.args.input.now _ c.seen_bytes-text.ensures);
   start = omega (arith, c.if-start-text.true);
   end = omega arith;
 }
 
 pub returns : goal.returns
 returns c =
-    let t = c.seen-bytes-text.result.now in
-    let whole = short c.args.input.now t c.seen-bytes-text.ensures in
+    let t = c.seen_bytes-text.result.now in
+    let whole = short c.args.input.now t c.seen_bytes-text.ensures in
     let count = lines_fit c.loop-found.invariant.0 in
-    let none = no_break c.loop-found.invariant.0 c.in-default.ensures.told in
-    let all = ap (λ t. slots_from 0 (labels_in t)) c.seen-bytes-text.ensures in
+    let none = no_break c.loop-found.invariant.0 c.in_default.ensures.told in
+    let all = ap (λ t. slots_from 0 (labels_in t)) c.seen_bytes-text.ensures in
     elim c.if-start-text.branch [
-      | then-start-text+in-ok-push-call-2 w ↦ (
+      | then-start-text+in_ok-push_call-2 w ↦ (
         ap (λ v. map asked_by (vec_items v)) w.calls-is
-            ∙ asked_last c.loop-found.invariant.1 none w.if-start-text.true _ _ (take_rest t c.loop-found.start) w.in-ok-push-call-2.ensures.0
+            ∙ asked_last c.loop-found.invariant.1 none w.if-start-text.true _ _ (take_rest t c.loop-found.start) w.in_ok-push_call-2.ensures.0
             ∙ all,
-        omega (arith, ap vec_len w.calls-is, w.in-ok-push-call-2.ensures.1, count, whole),
+        omega (arith, ap vec_len w.calls-is, w.in_ok-push_call-2.ensures.1, count, whole),
       )
       | else-start-text w ↦ (
         ap (λ v. map asked_by (vec_items v)) w.calls-is ∙ asked_all c.loop-found.invariant.1 none w.if-start-text.false ∙ all,

@@ -6,5 +6,5 @@ use Rattle.answer_pages.proofs.page.push_answered.Goals as goal
 
 pub returns-in-Ok : goal.returns-in-Ok
 returns-in-Ok c =
-    extended c.extend-from-slice.result (vec_items c.args.page.now) (vec_items c.extend-from-slice.new.self) c.args.slots.now c.min.result (taken_over c.args.slots.now c.args.answered) c.extend-from-slice.ensures.items
+    extended c.extend_from_slice.result (vec_items c.args.page.now) (vec_items c.extend_from_slice.new.self) c.args.slots.now c.min.result (taken_over c.args.slots.now c.args.answered) c.extend_from_slice.ensures.items
     (take_min c.args.slots.now c.in-Ok.count c.min.result c.min.ensures ∙ sym (ap (taken_over c.args.slots.now) c.in-Ok.is))

@@ -7,5 +7,5 @@ use Rattle.answer_pages.proofs.page.push_fault.Goals as goal
 pub returns : goal.returns
 returns c =
     let short = fault_short c.args.fault (omega arith) (omega arith) (omega arith) (omega arith) in
-    extended c.extend-from-slice.result (vec_items c.args.page.now) (vec_items c.extend-from-slice.new.self) c.write-fault.new.out c.unwrap-or-count.result (fault_text c.args.fault) c.extend-from-slice.ensures.items
-    (written (replicate 55 0) (fault_text c.args.fault) _ _ _ short c.write-fault.ensures.count c.write-fault.ensures.out c.unwrap-or-count.ensures)
+    extended c.extend_from_slice.result (vec_items c.args.page.now) (vec_items c.extend_from_slice.new.self) c.write_fault.new.out c.unwrap_or-count.result (fault_text c.args.fault) c.extend_from_slice.ensures.items
+    (written (replicate 55 0) (fault_text c.args.fault) _ _ _ short c.write_fault.ensures.count c.write_fault.ensures.out c.unwrap_or-count.ensures)

@@ -7,10 +7,10 @@ returns-in-Comma c =
     let within = inside _ _ _ _ c.requires.due c.next-place.ensures.part c.in-Comma.is in
     let moved = comma_passed _ _ _ _ c.requires.due c.next-place.ensures.part c.in-Comma.is _ c.next-place.ensures.at in
     record {
-      told = c.number-here.ensures.told ∙ told_after _ _ within _ c.next-place.ensures.line _ moved _;
-      left = left_after _ _ within _ c.next-place.ensures.line _ moved _ c.number-here.ensures.left;
-      line = c.number-here.ensures.line ∙ c.next-place.ensures.line;
-      due = c.number-here.ensures.due;
+      told = c.number_here.ensures.told ∙ told_after _ _ within _ c.next-place.ensures.line _ moved _;
+      left = left_after _ _ within _ c.next-place.ensures.line _ moved _ c.number_here.ensures.left;
+      line = c.number_here.ensures.line ∙ c.next-place.ensures.line;
+      due = c.number_here.ensures.due;
     }
 
 pub returns-in-Field : goal.returns-in-Field

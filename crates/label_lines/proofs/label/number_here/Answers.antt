@@ -3,8 +3,8 @@ use Rattle.std.proofs.lemmas.Result.{err_from_is_err_and}
 use Rattle.label_lines.proofs.Splitting.{number_told, field_fits, past_here, none_due}
 use Rattle.label_lines.proofs.label.number_here.Goals as goal
 
-pub field-number-requires : goal.field-number-requires
-field-number-requires c =
+pub field_number-requires : goal.field_number-requires
+field_number-requires c =
     omega (
       arith,
       c.next-place.ensures.place,
@@ -13,19 +13,19 @@ field-number-requires c =
       field_fits _ _ _ _ c.requires.due c.next-place.ensures.part c.in-Field.bytes c.in-Field.is c.args.reader.now.within,
     )
 
-pub returns-in-err-field-number : goal.returns-in-err-field-number
-returns-in-err-field-number c =
+pub returns-in_err-field_number : goal.returns-in_err-field_number
+returns-in_err-field_number c =
     let p = err_from_is_err_and c.from-residual.result c.from-residual.ensures.1 in
     record {
-      told = rw (p.1, p.2) (c.in-err-field-number.ensures ∙ number_told _ _ _ _ c.requires.due c.next-place.ensures.part _ _ _ _ c.in-Field.is c.next-place.ensures.place);
+      told = rw (p.1, p.2) (c.in_err-field_number.ensures ∙ number_told _ _ _ _ c.requires.due c.next-place.ensures.part _ _ _ _ c.in-Field.is c.next-place.ensures.place);
       left = past_here _ _ _ _ c.requires.due c.next-place.ensures.part _ c.next-place.ensures.at;
       line = c.next-place.ensures.line;
       due = none_due _ _ _ _ c.requires.due c.next-place.ensures.part _ c.next-place.ensures.due;
     }
 
-pub returns-in-ok-field-number : goal.returns-in-ok-field-number
-returns-in-ok-field-number c = record {
-  told = c.in-ok-field-number.ensures ∙ number_told _ _ _ _ c.requires.due c.next-place.ensures.part _ _ _ _ c.in-Field.is c.next-place.ensures.place;
+pub returns-in_ok-field_number : goal.returns-in_ok-field_number
+returns-in_ok-field_number c = record {
+  told = c.in_ok-field_number.ensures ∙ number_told _ _ _ _ c.requires.due c.next-place.ensures.part _ _ _ _ c.in-Field.is c.next-place.ensures.place;
   left = past_here _ _ _ _ c.requires.due c.next-place.ensures.part _ c.next-place.ensures.at;
   line = c.next-place.ensures.line;
   due = none_due _ _ _ _ c.requires.due c.next-place.ensures.part _ c.next-place.ensures.due;

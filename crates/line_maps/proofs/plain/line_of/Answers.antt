@@ -6,8 +6,8 @@ use Rattle.line_maps.proofs.plain.line_of.Goals as goal
 pub loop-found-init : goal.loop-found-init
 loop-found-init c = (counted_first c.args.text.now _ _ (c.new-cursor.ensures.input ∙ seen_whole c.args.text.now c.requires) c.new-cursor.ensures.at, omega arith)
 
-pub overflow-add-line : goal.overflow-add-line
-overflow-add-line c = omega (arith, few_lines c.loop-found.invariant.0 c.in-Some.found c.in-Some.ensures.told, c.requires)
+pub overflow_add-line : goal.overflow_add-line
+overflow_add-line c = omega (arith, few_lines c.loop-found.invariant.0 c.in-Some.found c.in-Some.ensures.told, c.requires)
 
 pub loop-found-smaller : goal.loop-found-smaller
 loop-found-smaller c =
@@ -24,5 +24,5 @@ loop-found-preserved c =
 pub returns-then-found-offset : goal.returns-then-found-offset
 returns-then-found-offset c = omega (arith, c.loop-found.invariant.1, ends_later c.loop-found.invariant.0 c.in-Some.found c.in-Some.ensures.told c.args.offset c.if-found-offset.true)
 
-pub returns-in-default : goal.returns-in-default
-returns-in-default c = omega (arith, c.loop-found.invariant.1, all_lines c.loop-found.invariant.0 c.in-default.ensures.told c.args.offset)
+pub returns-in_default : goal.returns-in_default
+returns-in_default c = omega (arith, c.loop-found.invariant.1, all_lines c.loop-found.invariant.0 c.in_default.ensures.told c.args.offset)

@@ -19,4 +19,4 @@ pub returns-then-passed-number : goal.returns-then-passed-number
 returns-then-passed-number c = sym (ap (break_ending (breaks c.args.text.now)) (sym c.if-passed-number.true) ∙ is_break c.loop-found.invariant.0 c.in-Some.found c.in-Some.ensures.told)
 
 pub returns : goal.returns
-returns c = sym (none_after (breaks c.args.text.now) _ c.args.number (no_break c.loop-found.invariant.0 c.in-default.ensures.told) c.loop-found.invariant.1)
+returns c = sym (none_after (breaks c.args.text.now) _ c.args.number (no_break c.loop-found.invariant.0 c.in_default.ensures.told) c.loop-found.invariant.1)

@@ -6,40 +6,40 @@ use Rattle.line_maps.proofs.reading.read.Given as given
 use Rattle.line_maps.proofs.reading.read.Goals as goal
 use Rattle.line_maps.proofs.reading.read.Goals.{else-context-eq0-via-then-context-eq0+else-offset-length, else-context-eq0-via-else-context-eq0}
 
-pub returns-in-err-line : goal.returns-in-err-line
-returns-in-err-line g c =
+pub returns-in_err-line : goal.returns-in_err-line
+returns-in_err-line g c =
     let m = g.M.LineMap in
-    absurd (line_told (m.text c.cover.new.self) c.offset-offset.result c.length-length.result c.min.result (c.length-length.ensures ∙ ap length (sym c.cover.ensures.kept)) c.min.ensures (sym c.line-index-of.ensures ∙ c.in-err-line.was))
+    absurd (line_told (m.text c.cover.new.self) c.offset-offset.result c.length-length.result c.min.result (c.length-length.ensures ∙ ap length (sym c.cover.ensures.kept)) c.min.ensures (sym c.line_index_of.ensures ∙ c.in_err-line.was))
 
 pub open-requires : goal.open-requires
 open-requires g c = let m = g.M.LineMap in record {
-  line = line_kept (m.text c.args.map.now) (m.text c.cover.new.self) (m.text c.break-ending-line-found.new.self) c.offset-offset.result c.length-length.result c.min.result c.in-ok-line.line c.length-length.ensures c.cover.ensures.kept c.break-ending-line-found.ensures.kept c.min.ensures (sym c.line-index-of.ensures ∙ c.in-ok-line.was);
-  found = c.break-ending-line-found.ensures.told ∙ ap (λ t. break_ending (breaks t) c.in-ok-line.line) (sym c.break-ending-line-found.ensures.kept);
+  line = line_kept (m.text c.args.map.now) (m.text c.cover.new.self) (m.text c.break_ending_line-found.new.self) c.offset-offset.result c.length-length.result c.min.result c.in_ok-line.line c.length-length.ensures c.cover.ensures.kept c.break_ending_line-found.ensures.kept c.min.ensures (sym c.line_index_of.ensures ∙ c.in_ok-line.was);
+  found = c.break_ending_line-found.ensures.told ∙ ap (λ t. break_ending (breaks t) c.in_ok-line.line) (sym c.break_ending_line-found.ensures.kept);
 }
 
 pub close-last-requires : goal.close-last-requires
 close-last-requires g c =
     let m = g.M.LineMap in
-    let on = line_kept (m.text c.args.map.now) (m.text c.cover.new.self) (m.text c.break-ending-line-found.new.self) c.offset-offset.result c.length-length.result c.min.result c.in-ok-line.line c.length-length.ensures c.cover.ensures.kept c.break-ending-line-found.ensures.kept c.min.ensures (sym c.line-index-of.ensures ∙ c.in-ok-line.was) in
+    let on = line_kept (m.text c.args.map.now) (m.text c.cover.new.self) (m.text c.break_ending_line-found.new.self) c.offset-offset.result c.length-length.result c.min.result c.in_ok-line.line c.length-length.ensures c.cover.ensures.kept c.break_ending_line-found.ensures.kept c.min.ensures (sym c.line_index_of.ensures ∙ c.in_ok-line.was) in
     record {
-      total = c.length-length.ensures ∙ ap length (sym (c.break-ending-line-found.ensures.kept ∙ c.cover.ensures.kept));
+      total = c.length-length.ensures ∙ ap length (sym (c.break_ending_line-found.ensures.kept ∙ c.cover.ensures.kept));
       end = c.if-end-length.false;
-      line = line_below (m.text c.break-ending-line-found.new.self) c.offset-offset.result _ c.in-ok-line.line (omega arith) on;
-      found = c.break-ending-line-found.ensures.told ∙ ap (λ t. break_ending (breaks t) c.in-ok-line.line) (sym c.break-ending-line-found.ensures.kept);
+      line = line_below (m.text c.break_ending_line-found.new.self) c.offset-offset.result _ c.in_ok-line.line (omega arith) on;
+      found = c.break_ending_line-found.ensures.told ∙ ap (λ t. break_ending (breaks t) c.in_ok-line.line) (sym c.break_ending_line-found.ensures.kept);
     }
 
 -- the texts are one, and the spans too
-start_is : (g : given.Over) (c : goal.After-struct-known-3·1 g) → c.in-ok-first.first.start ≡ window_start (breaks (g.M.LineMap.text c.args.map.now)) c.args.span.offset c.args.context.before
+start_is : (g : given.Over) (c : goal.After-struct-known-3·1 g) → c.in_ok-first.first.start ≡ window_start (breaks (g.M.LineMap.text c.args.map.now)) c.args.span.offset c.args.context.before
 start_is g c =
-    c.in-ok-first.ensures.told.0
-    ∙ ap (λ t. window_start (breaks t) c.offset-offset.result c.args.context.before) (c.break-ending-line-found.ensures.kept ∙ c.cover.ensures.kept)
+    c.in_ok-first.ensures.told.0
+    ∙ ap (λ t. window_start (breaks t) c.offset-offset.result c.args.context.before) (c.break_ending_line-found.ensures.kept ∙ c.cover.ensures.kept)
     ∙ ap (λ o. window_start (breaks (g.M.LineMap.text c.args.map.now)) o c.args.context.before) c.offset-offset.ensures
 
 end_is : (g : given.Over) (c : goal.After-struct-known-3·1 g) → c.close-last.result.end ≡ window_end_lem (length (g.M.LineMap.text c.args.map.now)) (breaks (g.M.LineMap.text c.args.map.now)) (c.args.span.offset + c.args.span.length) c.args.context.after
 end_is g c =
     let t = g.M.LineMap.text c.args.map.now in
     c.close-last.ensures.end
-    ∙ ap (λ t. window_end_lem (length t) (breaks t) (c.offset-offset.result + c.len.result) c.args.context.after) (c.break-ending-line-found.ensures.kept ∙ c.cover.ensures.kept)
+    ∙ ap (λ t. window_end_lem (length t) (breaks t) (c.offset-offset.result + c.len.result) c.args.context.after) (c.break_ending_line-found.ensures.kept ∙ c.cover.ensures.kept)
     ∙ ap (λ o. window_end_lem (length t) (breaks t) (o + c.len.result) c.args.context.after) c.offset-offset.ensures
     ∙ ap (λ l. window_end_lem (length t) (breaks t) (c.args.span.offset + l) c.args.context.after) c.len.ensures
 
@@ -52,27 +52,27 @@ inner g c none = elim c.else-context-eq0.branch [
   | else-context-eq0-via-else-context-eq0 w ↦ absurd (w.if-context-eq0.false none)
 ]
 
-pub overflow-sub-result : goal.overflow-sub-result
-overflow-sub-result g c = start_end (g.M.LineMap.text c.args.map.now) c.args.span c.args.context (fits g c) (inner g c) c.in-ok-first.first.start 0 0 c.close-last.result.end 0 (start_is g c) (end_is g c)
+pub overflow_sub-result : goal.overflow_sub-result
+overflow_sub-result g c = start_end (g.M.LineMap.text c.args.map.now) c.args.span c.args.context (fits g c) (inner g c) c.in_ok-first.first.start 0 0 c.close-last.result.end 0 (start_is g c) (end_is g c)
 
 pub returns : goal.returns
 returns g c =
     let m = g.M.LineMap in
     let t = m.text c.args.map.now in
-    let same = c.break-ending-line-found.ensures.kept ∙ c.cover.ensures.kept in
-    let first = c.in-ok-first.first in
+    let same = c.break_ending_line-found.ensures.kept ∙ c.cover.ensures.kept in
+    let first = c.in_ok-first.first in
     let line : first.line ≡ window_line (breaks t) c.args.span.offset c.args.context.before =
-    c.in-ok-first.ensures.told.1
+    c.in_ok-first.ensures.told.1
     ∙ ap (λ t. window_line (breaks t) c.offset-offset.result c.args.context.before) same
     ∙ ap (λ o. window_line (breaks t) o c.args.context.before) c.offset-offset.ensures in
     let column : first.column ≡ column_of (breaks t) (window_start (breaks t) c.args.span.offset c.args.context.before) =
-    c.in-ok-first.ensures.told.2
+    c.in_ok-first.ensures.told.2
     ∙ ap (λ t. column_of (breaks t) (window_start (breaks t) c.offset-offset.result c.args.context.before)) same
     ∙ ap (λ o. column_of (breaks t) (window_start (breaks t) o c.args.context.before)) c.offset-offset.ensures in
     let count : c.close-last.result.line_count ≡ line_of (breaks t) c.close-last.result.end = c.close-last.ensures.lines ∙ ap (λ t. line_of (breaks t) c.close-last.result.end) same in
     record {
       told = window_is t c.args.span c.args.context (fits g c) (inner g c) first.start first.line first.column c.close-last.result.end c.close-last.result.line_count (start_is g c) (end_is g c) line column count;
       kept = c.close-last.ensures.kept ∙ same;
-      onward = omega (arith, c.cover.ensures.onward, c.break-ending-line-found.ensures.onward, c.close-last.ensures.onward);
-      covers = (m.frontier c.cover.new.self, subst (λ o. m.covered c.args.map.now o c.args.context.before (m.frontier c.cover.new.self)) c.offset-offset.ensures c.cover.ensures.reached, omega (arith, c.break-ending-line-found.ensures.onward, c.close-last.ensures.onward));
+      onward = omega (arith, c.cover.ensures.onward, c.break_ending_line-found.ensures.onward, c.close-last.ensures.onward);
+      covers = (m.frontier c.cover.new.self, subst (λ o. m.covered c.args.map.now o c.args.context.before (m.frontier c.cover.new.self)) c.offset-offset.ensures c.cover.ensures.reached, omega (arith, c.break_ending_line-found.ensures.onward, c.close-last.ensures.onward));
     }

@@ -5,19 +5,19 @@ use Rattle.lines.proofs.breaks.next_break.Goals as goal
 
 pub returns-then-width-eq0 : goal.returns-then-width-eq0
 returns-then-width-eq0 c =
-    finds_none c.seen-bytes-text.result.now c.args.from _ _ c.lower.ensures c.next-ending-start.ensures _ c.break-width-width.ensures c.if-width-eq0.true
-    ∙ ap (λ t. next_break_lem (breaks t) c.args.from) c.seen-bytes-text.ensures
+    finds_none c.seen_bytes-text.result.now c.args.from _ _ c.lower.ensures c.next_ending-start.ensures _ c.break_width-width.ensures c.if-width-eq0.true
+    ∙ ap (λ t. next_break_lem (breaks t) c.args.from) c.seen_bytes-text.ensures
 
-pub overflow-cast-result-2 : goal.overflow-cast-result-2
-overflow-cast-result-2 c =
+pub overflow_cast-result-2 : goal.overflow_cast-result-2
+overflow_cast-result-2 c =
     omega (
       arith,
-      fits c.seen-bytes-text.result.now c.args.from _ _ c.lower.ensures c.next-ending-start.ensures _ c.break-width-width.ensures,
-      ap length c.seen-bytes-text.ensures,
+      fits c.seen_bytes-text.result.now c.args.from _ _ c.lower.ensures c.next_ending-start.ensures _ c.break_width-width.ensures,
+      ap length c.seen_bytes-text.ensures,
       few_seen c.args.source.now,
     )
 
 pub returns : goal.returns
 returns c =
-    finds_some c.seen-bytes-text.result.now c.args.from _ _ c.lower.ensures c.next-ending-start.ensures _ c.break-width-width.ensures c.if-width-eq0.false
-    ∙ ap (λ t. next_break_lem (breaks t) c.args.from) c.seen-bytes-text.ensures
+    finds_some c.seen_bytes-text.result.now c.args.from _ _ c.lower.ensures c.next_ending-start.ensures _ c.break_width-width.ensures c.if-width-eq0.false
+    ∙ ap (λ t. next_break_lem (breaks t) c.args.from) c.seen_bytes-text.ensures

@@ -7,5 +7,5 @@ use Rattle.lines.proofs.endings.ending_in_16.Goals as goal
 
 pub returns : goal.returns
 returns c =
-    in_front c.args.text.now c.args.at 16 c.plain-front.result c.requires
-    (c.plain-front.ensures ∙ ap (λ (bytes : List ℕ). prefix_len is_plain (take 16 bytes)) (take_rest c.args.text.now c.args.at))
+    in_front c.args.text.now c.args.at 16 c.plain_front.result c.requires
+    (c.plain_front.ensures ∙ ap (λ (bytes : List ℕ). prefix_len is_plain (take 16 bytes)) (take_rest c.args.text.now c.args.at))

@@ -2,8 +2,8 @@ use Rattle.std.proofs.Common.{sym, ◌∙◌}
 use Rattle.lines.proofs.Seeking.{passes, stops}
 use Rattle.lines.proofs.endings.next_by_byte.Goals as goal
 
-pub returns-then-ends-line : goal.returns-then-ends-line
-returns-then-ends-line c = sym (stops _ _ c.loop-at-test.true (sym c.line_at_end.ensures ∙ c.if-ends-line.true)) ∙ c.loop-at.invariant
+pub returns-then-ends_line : goal.returns-then-ends_line
+returns-then-ends_line c = sym (stops _ _ c.loop-at-test.true (sym c.line_at_end.ensures ∙ c.if-ends_line.true)) ∙ c.loop-at.invariant
 
 pub loop-at-preserved : goal.loop-at-preserved
-loop-at-preserved c = passes _ _ c.loop-at-test.true (sym c.line_at_end.ensures ∙ c.if-ends-line.false) ∙ c.loop-at.invariant
+loop-at-preserved c = passes _ _ c.loop-at-test.true (sym c.line_at_end.ensures ∙ c.if-ends_line.false) ∙ c.loop-at.invariant

@@ -8,7 +8,7 @@ use Rattle.lines.proofs.endings.plain_front.Goals as goal
 
 pub returns-else-endings-eq0 : goal.returns-else-endings-eq0
 returns-else-endings-eq0 c =
-    let is = c.endings-mask-endings.ensures in
+    let is = c.endings_mask-endings.ensures in
     let short : length (take 16 c.args.text.now) ≤ 64 = omega (arith, length-take-le 16 c.args.text.now c.requires) in
     let some : 0 < mask_l (map ends_line_lem (take 16 c.args.text.now)) = omega (arith, is, c.if-endings-eq0.false) in
     ap (count_trailing_zeros 64) is ∙ trailing_mask_l ends_line_lem 64 (take 16 c.args.text.now) short some

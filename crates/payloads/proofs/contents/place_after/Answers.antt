@@ -15,8 +15,8 @@ loop-found-init c =
     c.new-cursor.ensures.input ∙ seen_whole (take (end - 0) bytes) short ∙ take_min bytes c.args.count (end - 0) (omega (arith, c.min-end.ensures)) in
     (input, subst (Passing c.new-cursor.result.input.now c.args.count c.args.line c.args.column _) (sym c.new-cursor.ensures.at) (passing_first c.new-cursor.result.input.now c.args.count c.args.line c.args.column))
 
-pub overflow-add-place-in-Some : goal.overflow-add-place-in-Some
-overflow-add-place-in-Some c =
+pub overflow_add-place-in-Some : goal.overflow_add-place-in-Some
+overflow_add-place-in-Some c =
     omega (arith, (passing_few c.loop-found.invariant.1 c.in-Some.found c.in-Some.ensures.told).0, c.loop-found.cursor.short)
 
 pub loop-found-smaller : goal.loop-found-smaller
@@ -29,14 +29,14 @@ pub loop-found-preserved : goal.loop-found-preserved
 loop-found-preserved c =
     let same = c.in-Some.ensures.input in
     let more = passing_more c.loop-found.invariant.1 c.in-Some.found c.in-Some.ensures.told in
-    let column : c.args.count - past c.in-Some.found ≡ c.saturating-sub.result = sym (c.saturating-sub.ensures ∙ ap (λ n. c.args.count - n) c.next-line-start.ensures) in (
+    let column : c.args.count - past c.in-Some.found ≡ c.saturating_sub.result = sym (c.saturating_sub.ensures ∙ ap (λ n. c.args.count - n) c.next_line_start.ensures) in (
       same ∙ c.loop-found.invariant.0,
-      subst (λ d. Passing d c.args.count c.args.line c.args.column (record { line = c.loop-found.place.line + 1; column = c.saturating-sub.result }) c.next.new.self.at) (sym same)
-          (subst (λ at. Passing c.loop-found.cursor.input.now c.args.count c.args.line c.args.column (record { line = c.loop-found.place.line + 1; column = c.saturating-sub.result }) at) (sym c.in-Some.ensures.stands)
+      subst (λ d. Passing d c.args.count c.args.line c.args.column (record { line = c.loop-found.place.line + 1; column = c.saturating_sub.result }) c.next.new.self.at) (sym same)
+          (subst (λ at. Passing c.loop-found.cursor.input.now c.args.count c.args.line c.args.column (record { line = c.loop-found.place.line + 1; column = c.saturating_sub.result }) at) (sym c.in-Some.ensures.stands)
           (subst (λ n. Passing c.loop-found.cursor.input.now c.args.count c.args.line c.args.column (record { line = c.loop-found.place.line + 1; column = n }) (past c.in-Some.found)) column more)),
     )
 
 pub returns : goal.returns
 returns c =
-    passing_all c.loop-found.invariant.1 c.in-default.ensures.told
+    passing_all c.loop-found.invariant.1 c.in_default.ensures.told
     ∙ ap (λ d. record { line = c.args.line + length (breaks d); column = column_after c.args.count (c.args.column + c.args.count) (breaks d) }) c.loop-found.invariant.0

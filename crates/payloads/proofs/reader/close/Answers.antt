@@ -8,14 +8,14 @@ pub returns-then-after-gt0 : goal.returns-then-after-gt0
 returns-then-after-gt0 c =
     let t = c.args.walk.now.text.now in
     let cut = c.to-2.new.self in
-    let at : cut.at ≡ c.cut-after-cut.result = omega (arith, c.to-2.ensures.at, c.cut-after-cut.ensures.from, c.cut-after-cut.ensures.within, c.requires) in
+    let at : cut.at ≡ c.cut_after-cut.result = omega (arith, c.to-2.ensures.at, c.cut_after-cut.ensures.from, c.cut_after-cut.ensures.within, c.requires) in
     let line : cut.line ≡ line_of (breaks t) (cut_after_lem (breaks t) c.args.end) =
-    cut.line_is ∙ ap (λ t. line_of (breaks t) cut.at) c.to-2.ensures.text ∙ ap (line_of (breaks t)) (at ∙ c.cut-after-cut.ensures.cut) in
+    cut.line_is ∙ ap (λ t. line_of (breaks t) cut.at) c.to-2.ensures.text ∙ ap (line_of (breaks t)) (at ∙ c.cut_after-cut.ensures.cut) in
     record {
-      text = c.to-line.ensures.text ∙ c.to-2.ensures.text;
-      at = c.to-line.ensures.at
+      text = c.to_line.ensures.text ∙ c.to-2.ensures.text;
+      at = c.to_line.ensures.at
           ∙ ap (λ t. unwrap_or (line_start_lem (breaks t) (cut.line + c.args.after + 1)) (length t)) c.to-2.ensures.text
           ∙ ap (λ k. unwrap_or (line_start_lem (breaks t) (k + c.args.after + 1)) (length t)) line
           ∙ end_trailing t c.args.end c.args.after c.if-end-length.false c.if-after-gt0.true;
-      onward = omega (arith, c.to-line.ensures.onward, c.to-2.ensures.at);
+      onward = omega (arith, c.to_line.ensures.onward, c.to-2.ensures.at);
     }

@@ -3,7 +3,7 @@ use Rattle.lines.specs.Breaks.{breaks, line_of}
 use Rattle.payloads.proofs.Walking.{line_first}
 use Rattle.payloads.proofs.reader.line_start.Goals as goal
 
-pub to-line-requires : goal.to-line-requires
-to-line-requires c =
+pub to_line-requires : goal.to_line-requires
+to_line-requires c =
     let walk = c.new-walk.result in
     omega (arith, walk.line_is ∙ ap (line_of (breaks walk.text.now)) c.new-walk.ensures.at, line_first walk.text.now, c.if-line-eq0.false)

@@ -8,11 +8,11 @@ pub returns : goal.returns
 returns c =
     let walk = c.args.walk.now in
     let t = walk.text.now in
-    let line : c.saturating-sub-line.result ≡ window_line (breaks t) c.args.offset c.args.before =
-    c.saturating-sub-line.ensures ∙ ap (λ k. k - c.args.before) (walk.line_is ∙ ap (line_of (breaks t)) c.requires.at ∙ line_min t c.args.offset) in
+    let line : c.saturating_sub-line.result ≡ window_line (breaks t) c.args.offset c.args.before =
+    c.saturating_sub-line.ensures ∙ ap (λ k. k - c.args.before) (walk.line_is ∙ ap (line_of (breaks t)) c.requires.at ∙ line_min t c.args.offset) in
     record {
-      start = open_start t c.args.offset c.args.before _ _ c.if-before-eq0.false line c.line-start.ensures;
+      start = open_start t c.args.offset c.args.before _ _ c.if-before-eq0.false line c.line_start.ensures;
       line = line;
-      column = open_column t c.args.offset c.args.before _ _ c.if-before-eq0.false line c.line-start.ensures;
-      upto = omega (arith, c.requires.at, open_upto t c.args.offset c.args.before _ _ c.if-before-eq0.false line c.line-start.ensures);
+      column = open_column t c.args.offset c.args.before _ _ c.if-before-eq0.false line c.line_start.ensures;
+      upto = omega (arith, c.requires.at, open_upto t c.args.offset c.args.before _ _ c.if-before-eq0.false line c.line_start.ensures);
     }

@@ -4,6 +4,6 @@ use Rattle.answers.proofs.row.Row.push_next.Goals as goal
 
 pub returns : goal.returns
 returns c = record {
-  text = c.push-number.ensures.text ∙ ap (λ l. l ++ decimal c.args.number) c.push.ensures.text ∙ append_assoc (row_text c.args.self.now) (44 ∷ []) (decimal c.args.number);
-  len = omega (arith, c.push-number.ensures.len, c.push.ensures.len);
+  text = c.push_number.ensures.text ∙ ap (λ l. l ++ decimal c.args.number) c.push.ensures.text ∙ append_assoc (row_text c.args.self.now) (44 ∷ []) (decimal c.args.number);
+  len = omega (arith, c.push_number.ensures.len, c.push.ensures.len);
 }

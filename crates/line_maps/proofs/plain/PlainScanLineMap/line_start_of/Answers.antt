@@ -4,7 +4,7 @@ use Rattle.lines.proofs.BreakLaws.{lies}
 use Rattle.payloads.proofs.Passing.{rising}
 use Rattle.line_maps.proofs.plain.PlainScanLineMap.line_start_of.Goals as goal
 
-pub overflow-add-result : goal.overflow-add-result
-overflow-add-result c =
+pub overflow_add-result : goal.overflow_add-result
+overflow_add-result c =
     let t = c.args.self.now.source.now in
     omega (arith, c.args.self.now.short, (lies 0 (breaks t) (length t) (rising t) _ _ (sym c.in-Some.ensures)).within)

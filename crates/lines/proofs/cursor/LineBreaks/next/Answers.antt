@@ -2,15 +2,15 @@ use Rattle.std.proofs.Common.{sym, refl, ◌∙◌, arith}
 use Rattle.lines.proofs.Finding.{told_whole_lem, ends_within, over}
 use Rattle.lines.proofs.cursor.LineBreaks.next.Goals as goal
 
-pub invariant-of-self : goal.invariant-of-self
-invariant-of-self c =
+pub invariant_of-self : goal.invariant_of-self
+invariant_of-self c =
     let self = c.args.self.now in
-    (omega (arith, c.next-line-start-self.ensures, ends_within self.input.now self.at self.short c.in-Some.found c.in-Some.ensures), (self.short, tt))
+    (omega (arith, c.next_line_start-self.ensures, ends_within self.input.now self.at self.short c.in-Some.found c.in-Some.ensures), (self.short, tt))
 
 pub returns-in-Some : goal.returns-in-Some
 returns-in-Some c = let self = c.args.self.now in record {
   told = told_whole_lem self.input.now self.at self.short _ c.in-Some.ensures;
-  stands = c.next-line-start-self.ensures;
+  stands = c.next_line_start-self.ensures;
   over = tt;
   input = refl;
 }

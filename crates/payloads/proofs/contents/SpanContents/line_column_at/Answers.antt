@@ -2,5 +2,5 @@ use Rattle.std.proofs.Common.{arith}
 use Rattle.payloads.proofs.Passing.{lowered_le}
 use Rattle.payloads.proofs.contents.SpanContents.line_column_at.Goals as goal
 
-pub place-after-requires : goal.place-after-requires
-place-after-requires c = omega (arith, c.lower-rel.ensures, lowered_le c.data.result.now c.saturating-sub-at.result, c.saturating-sub-at.ensures, c.ranges.offset)
+pub place_after-requires : goal.place_after-requires
+place_after-requires c = omega (arith, c.lower-rel.ensures, lowered_le c.data.result.now c.saturating_sub-at.result, c.saturating_sub-at.ensures, c.ranges.offset)

@@ -8,5 +8,5 @@ pub returns : goal.returns
 returns c =
     let t = c.args.self.input.now in
     c.contents.ensures
-    ∙ ap (λ t. payload t c.in-ok-window.window) (seen_whole t c.args.self.short)
-    ∙ sym (ap (λ w. option_flatten (option_map (payload t) w)) (sym c.window-of.ensures ∙ c.in-ok-window.was))
+    ∙ ap (λ t. payload t c.in_ok-window.window) (seen_whole t c.args.self.short)
+    ∙ sym (ap (λ w. option_flatten (option_map (payload t) w)) (sym c.window_of.ensures ∙ c.in_ok-window.was))

@@ -2,5 +2,5 @@ use Rattle.std.proofs.Common.{sym, arith}
 use Rattle.payloads.proofs.Walking.{line_first, column_first}
 use Rattle.payloads.proofs.walk.Walk.new.Goals as goal
 
-pub invariant-of-result : goal.invariant-of-result
-invariant-of-result c = (omega arith, (c.requires, (sym (line_first c.args.text.now), (sym (column_first c.args.text.now), tt))))
+pub invariant_of-result : goal.invariant_of-result
+invariant_of-result c = (omega arith, (c.requires, (sym (line_first c.args.text.now), (sym (column_first c.args.text.now), tt))))

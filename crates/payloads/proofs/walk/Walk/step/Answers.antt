@@ -4,18 +4,18 @@ use Rattle.payloads.proofs.Stepping.{plain_line, plain_column, line_at_end, ends
 use Rattle.payloads.proofs.Walking.{column_le, line_le, widest}
 use Rattle.payloads.proofs.walk.Walk.step.Goals as goal
 
-pub overflow-add-self-then-width-eq0 : goal.overflow-add-self-then-width-eq0
-overflow-add-self-then-width-eq0 c = let self = c.args.self.now in omega (arith, self.column_is, column_le self.text.now self.at, self.short, c.requires)
+pub overflow_add-self-then-width-eq0 : goal.overflow_add-self-then-width-eq0
+overflow_add-self-then-width-eq0 c = let self = c.args.self.now in omega (arith, self.column_is, column_le self.text.now self.at, self.short, c.requires)
 
-pub overflow-add-self-then-width-eq1 : goal.overflow-add-self-then-width-eq1
-overflow-add-self-then-width-eq1 c =
+pub overflow_add-self-then-width-eq1 : goal.overflow_add-self-then-width-eq1
+overflow_add-self-then-width-eq1 c =
     let self = c.args.self.now in
-    omega (arith, self.line_is, line_at_end self.text.now self.at c.requires (sym c.break-width-width.ensures ∙ c.if-width-eq1.true), line_le self.text.now (self.at + 1), self.short)
+    omega (arith, self.line_is, line_at_end self.text.now self.at c.requires (sym c.break_width-width.ensures ∙ c.if-width-eq1.true), line_le self.text.now (self.at + 1), self.short)
 
-pub invariant-of-self : goal.invariant-of-self
-invariant-of-self c =
+pub invariant_of-self : goal.invariant_of-self
+invariant_of-self c =
     let self = c.args.self.now in
-    let plain : width (drop self.at self.text.now) ≡ 0 = sym c.break-width-width.ensures ∙ c.if-width-eq0.true in (
+    let plain : width (drop self.at self.text.now) ≡ 0 = sym c.break_width-width.ensures ∙ c.if-width-eq0.true in (
       omega (arith, c.requires),
       (
         self.short,
@@ -26,10 +26,10 @@ invariant-of-self c =
       ),
     )
 
-pub invariant-of-self-then-width-eq1 : goal.invariant-of-self-then-width-eq1
-invariant-of-self-then-width-eq1 c =
+pub invariant_of-self-then-width-eq1 : goal.invariant_of-self-then-width-eq1
+invariant_of-self-then-width-eq1 c =
     let self = c.args.self.now in
-    let last : width (drop self.at self.text.now) ≡ 1 = sym c.break-width-width.ensures ∙ c.if-width-eq1.true in (
+    let last : width (drop self.at self.text.now) ≡ 1 = sym c.break_width-width.ensures ∙ c.if-width-eq1.true in (
       omega (arith, c.requires),
       (
         self.short,
@@ -40,10 +40,10 @@ invariant-of-self-then-width-eq1 c =
       ),
     )
 
-pub invariant-of-self-else-width-eq1 : goal.invariant-of-self-else-width-eq1
-invariant-of-self-else-width-eq1 c =
+pub invariant_of-self-else-width-eq1 : goal.invariant_of-self-else-width-eq1
+invariant_of-self-else-width-eq1 c =
     let self = c.args.self.now in
-    let pair : width (drop self.at self.text.now) ≡ 2 = widest (drop self.at self.text.now) _ c.break-width-width.ensures c.if-width-eq0.false c.if-width-eq1.false in (
+    let pair : width (drop self.at self.text.now) ≡ 2 = widest (drop self.at self.text.now) _ c.break_width-width.ensures c.if-width-eq0.false c.if-width-eq1.false in (
       omega (arith, c.requires),
       (
         self.short,
