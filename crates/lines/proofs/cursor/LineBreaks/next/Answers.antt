@@ -5,7 +5,10 @@ use Rattle.lines.proofs.cursor.LineBreaks.next.Goals as goal
 pub invariant_of-self : goal.invariant_of-self
 invariant_of-self c =
     let self = c.args.self.now in
-    (omega (arith, c.next_line_start-self.ensures, ends_within self.input.now self.at self.short c.in-Some.found c.in-Some.ensures), (self.short, tt))
+    record {
+      within = omega (arith, c.next_line_start-self.ensures, ends_within self.input.now self.at self.short c.in-Some.found c.in-Some.ensures);
+      short = self.short;
+    }
 
 pub returns-in-Some : goal.returns-in-Some
 returns-in-Some c = let self = c.args.self.now in record {
