@@ -13,8 +13,8 @@ loop-i-preserved c =
     let digit = sym c.if-not-is_ascii_digit.ensures.value in
     let inside = c.if-not-is_ascii_digit.ensures.cases in
     elim c.if-value-le-LARGEST.branch [
-      | then-value-le-LARGEST w ↦ taken_more c.args.bytes.now c.loop-i.i c.loop-i-test.true c.loop-i.value c.loop-i.invariant digit w.if-value-le-LARGEST.true _ w.value_is (omega (arith, inside))
-      | else-value-le-LARGEST w ↦ rw w.value_is (taken_over_lem c.args.bytes.now c.loop-i.i c.loop-i-test.true c.loop-i.value c.loop-i.invariant digit w.if-value-le-LARGEST.false)
+      | then-value-le-LARGEST w ↦ taken_more c.args.bytes.now c.loop-i.i c.loop-i-test.true c.loop-i.value c.loop-i.invariant digit w.if-value-le-LARGEST.true _ w.value-is (omega (arith, inside))
+      | else-value-le-LARGEST w ↦ rw w.value-is (taken_over_lem c.args.bytes.now c.loop-i.i c.loop-i-test.true c.loop-i.value c.loop-i.invariant digit w.if-value-le-LARGEST.false)
     ]
 
 pub returns-then-bytes-gt-MOST_DIGITS : goal.returns-then-bytes-gt-MOST_DIGITS

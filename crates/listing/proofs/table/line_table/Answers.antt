@@ -4,7 +4,7 @@ use Rattle.lines.proofs.Finding.{few_seen}
 use Rattle.listing.specs.Table.{table_text}
 use Rattle.listing.proofs.Listed.{Going, Small, small, going_first, at_within, from, within, past_start, number, going_more, last_number, going_all}
 use Rattle.listing.proofs.table.line_table.Goals as goal
-use Rattle.listing.proofs.table.line_table.Goals.{In-Some, In-default}
+use Rattle.listing.proofs.table.line_table.Goals.{In-Some, In_default}
 
 pub loop-found-init : goal.loop-found-init
 loop-found-init c = (
@@ -47,10 +47,10 @@ loop-found-preserved c =
     )
 
 -- at the end
-short_end : (c : In-default) → length c.seen_bytes-text.result.now ≤ 4294967295
+short_end : (c : In_default) → length c.seen_bytes-text.result.now ≤ 4294967295
 short_end c = omega (arith, ap length c.seen_bytes-text.ensures, few_seen c.args.source.now)
 
-told_end : (c : In-default) → None ≡ next_break_lem (breaks c.seen_bytes-text.result.now) c.loop-found.start
+told_end : (c : In_default) → None ≡ next_break_lem (breaks c.seen_bytes-text.result.now) c.loop-found.start
 told_end c = c.in_default.ensures.told ∙ ap (λ t. next_break_lem (breaks t) c.loop-found.cursor.at) c.loop-found.invariant.0 ∙ ap (next_break_lem (breaks c.seen_bytes-text.result.now)) c.loop-found.invariant.1
 
 pub last_line-line-requires : goal.last_line-line-requires
@@ -62,12 +62,12 @@ last_line-line-requires c = let going = c.loop-found.invariant.2 in record {
 
 pub with-tally-requires-2 : goal.with-tally-requires-2
 with-tally-requires-2 c =
-    let s = small (short_end (goal.at.with-tally-requires-2 c).In-default) c.loop-found.invariant.2.listed in
+    let s = small (short_end (goal.at.with-tally-requires-2 c).In_default) c.loop-found.invariant.2.listed in
     record { lines = omega (arith, s.lines); lf = omega (arith, s.lf); cr = omega (arith, s.cr); cr_lf = omega (arith, s.crlf) }
 
 pub returns : goal.returns
 returns c =
-    let at = (goal.at.returns c).In-default in
+    let at = (goal.at.returns c).In_default in
     let rows = string_bytes c.push_row-2.new.table in
     c.in_ok-push_str.ensures.bytes
     ∙ ap (λ bytes. rows ++ bytes) (c.as_str.ensures.value ∙ c.in_ok-closing.ensures)

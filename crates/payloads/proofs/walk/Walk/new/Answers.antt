@@ -3,4 +3,9 @@ use Rattle.payloads.proofs.Walking.{line_first, column_first}
 use Rattle.payloads.proofs.walk.Walk.new.Goals as goal
 
 pub invariant_of-result : goal.invariant_of-result
-invariant_of-result c = (omega arith, (c.requires, (sym (line_first c.args.text.now), (sym (column_first c.args.text.now), tt))))
+invariant_of-result c = record {
+  within = omega arith;
+  short = c.requires;
+  line_is = sym (line_first c.args.text.now);
+  column_is = sym (column_first c.args.text.now);
+}

@@ -15,41 +15,32 @@ overflow_add-self-then-width-eq1 c =
 pub invariant_of-self : goal.invariant_of-self
 invariant_of-self c =
     let self = c.args.self.now in
-    let plain : width (drop self.at self.text.now) ≡ 0 = sym c.break_width-width.ensures ∙ c.if-width-eq0.true in (
-      omega (arith, c.requires),
-      (
-        self.short,
-        (
-          self.line_is ∙ sym (plain_line self.text.now self.at c.requires plain),
-          (ap (λ n. n + 1) self.column_is ∙ sym (plain_column self.text.now self.at c.requires plain), tt),
-        ),
-      ),
-    )
+    let plain : width (drop self.at self.text.now) ≡ 0 = sym c.break_width-width.ensures ∙ c.if-width-eq0.true in
+    record {
+      within = omega (arith, c.requires);
+      short = self.short;
+      line_is = self.line_is ∙ sym (plain_line self.text.now self.at c.requires plain);
+      column_is = ap (λ n. n + 1) self.column_is ∙ sym (plain_column self.text.now self.at c.requires plain);
+    }
 
 pub invariant_of-self-then-width-eq1 : goal.invariant_of-self-then-width-eq1
 invariant_of-self-then-width-eq1 c =
     let self = c.args.self.now in
-    let last : width (drop self.at self.text.now) ≡ 1 = sym c.break_width-width.ensures ∙ c.if-width-eq1.true in (
-      omega (arith, c.requires),
-      (
-        self.short,
-        (
-          ap (λ n. n + 1) self.line_is ∙ sym (line_at_end self.text.now self.at c.requires last),
-          (sym (ends_column self.text.now self.at c.requires last), tt),
-        ),
-      ),
-    )
+    let last : width (drop self.at self.text.now) ≡ 1 = sym c.break_width-width.ensures ∙ c.if-width-eq1.true in
+    record {
+      within = omega (arith, c.requires);
+      short = self.short;
+      line_is = ap (λ n. n + 1) self.line_is ∙ sym (line_at_end self.text.now self.at c.requires last);
+      column_is = sym (ends_column self.text.now self.at c.requires last);
+    }
 
 pub invariant_of-self-else-width-eq1 : goal.invariant_of-self-else-width-eq1
 invariant_of-self-else-width-eq1 c =
     let self = c.args.self.now in
-    let pair : width (drop self.at self.text.now) ≡ 2 = widest (drop self.at self.text.now) _ c.break_width-width.ensures c.if-width-eq0.false c.if-width-eq1.false in (
-      omega (arith, c.requires),
-      (
-        self.short,
-        (
-          self.line_is ∙ sym (pair_line self.text.now self.at c.requires pair),
-          (self.column_is ∙ sym (pair_column self.text.now self.at c.requires pair), tt),
-        ),
-      ),
-    )
+    let pair : width (drop self.at self.text.now) ≡ 2 = widest (drop self.at self.text.now) _ c.break_width-width.ensures c.if-width-eq0.false c.if-width-eq1.false in
+    record {
+      within = omega (arith, c.requires);
+      short = self.short;
+      line_is = self.line_is ∙ sym (pair_line self.text.now self.at c.requires pair);
+      column_is = self.column_is ∙ sym (pair_column self.text.now self.at c.requires pair);
+    }
