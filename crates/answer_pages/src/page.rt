@@ -22,9 +22,9 @@ pub fn answer_page<M: LineMap>(
     map: &mut M,
     input: &[u8],
 ) -> Result<Vec<u8>, AllocError>
-    ensures page { IfOk result (λ page. page.items ≡ page_for (text map.old) (seen input.now)) }
-    ensures kept { text map.new ≡ text map.old }
-    ensures onward { frontier map.old ≤ frontier map.new }
+    ensures page { IfOk result (λ page. page.items ≡ page_for (M.text map.old) (seen input.now)) }
+    ensures kept { M.text map.new ≡ M.text map.old }
+    ensures onward { M.frontier map.old ≤ M.frontier map.new }
 {
     let calls = label_calls(heap, input)?;
     let count = calls.len();
@@ -48,9 +48,9 @@ fn answer_calls<M: LineMap>(
     told: &mut [Told],
 ) -> Result<Vec<u8>, AllocError>
     requires { length told.old ≡ length calls.now }
-    ensures page { IfOk result (λ page. page.items ≡ gathered (page_left (text map.old) slots.old calls.now) (tells (text map.old) slots.old calls.now)) }
-    ensures kept { text map.new ≡ text map.old }
-    ensures went { Went calls.now (frontier map.old) (frontier map.new) }
+    ensures page { IfOk result (λ page. page.items ≡ gathered (page_left (M.text map.old) slots.old calls.now) (tells (M.text map.old) slots.old calls.now)) }
+    ensures kept { M.text map.new ≡ M.text map.old }
+    ensures went { Went calls.now (M.frontier map.old) (M.frontier map.new) }
 {
     let _ = run(map, slots, calls, told);
     gather(heap, slots, told)

@@ -16,10 +16,10 @@ use lines::records::Fault;
 // buffer alone, the buffer is left as the reference leaves it, and the law of runs holds of all that was told.
 pub fn run<M: LineMap>(map: &mut M, page: &mut [u8], calls: &[Call], told: &mut [Told]) -> usize
     ensures count { result ≡ min (length calls.now) (length told.old) }
-    ensures law { Lawful (text map.old) page.old page.new (take result calls.now) (take result told.new) }
+    ensures law { Lawful (M.text map.old) page.old page.new (take result calls.now) (take result told.new) }
     ensures rest { drop result told.new ≡ drop result told.old }
-    ensures kept { text map.new ≡ text map.old }
-    ensures went { Went (take result calls.now) (frontier map.old) (frontier map.new) }
+    ensures kept { M.text map.new ≡ M.text map.old }
+    ensures went { Went (take result calls.now) (M.frontier map.old) (M.frontier map.new) }
 {
     let count = calls.len().min(told.len());
     for i in 0..count {
@@ -30,10 +30,10 @@ pub fn run<M: LineMap>(map: &mut M, page: &mut [u8], calls: &[Call], told: &mut 
 
 // One call.
 pub fn serve<M: LineMap>(map: &mut M, page: &mut [u8], call: Call) -> Told
-    ensures told { result ≡ reference (text map.old) (handed_in page.old call.entry) call.entry }
-    ensures page { page.new ≡ page_after (text map.old) page.old call.entry }
-    ensures kept { text map.new ≡ text map.old }
-    ensures moved { Moved call.entry (frontier map.old) (frontier map.new) }
+    ensures told { result ≡ reference (M.text map.old) (handed_in page.old call.entry) call.entry }
+    ensures page { page.new ≡ page_after (M.text map.old) page.old call.entry }
+    ensures kept { M.text map.new ≡ M.text map.old }
+    ensures moved { Moved call.entry (M.frontier map.old) (M.frontier map.new) }
 {
     match call {
         Call::Read(span, context) => Told::Shown(read(map, span, context)),
@@ -53,10 +53,10 @@ fn answer_into<M: LineMap>(
     page: &mut [u8],
     part: PagePart,
 ) -> Result<usize, Fault>
-    ensures told { result ≡ answered (buffer_at page.old part) (line_for (text map.old) line.now) }
-    ensures page { page.new ≡ with_buffer_lem page.old part (buffer_after (buffer_at page.old part) (line_for (text map.old) line.now)) }
-    ensures kept { text map.new ≡ text map.old }
-    ensures onward { frontier map.old ≤ frontier map.new }
+    ensures told { result ≡ answered (buffer_at page.old part) (line_for (M.text map.old) line.now) }
+    ensures page { page.new ≡ with_buffer_lem page.old part (buffer_after (buffer_at page.old part) (line_for (M.text map.old) line.now)) }
+    ensures kept { M.text map.new ≡ M.text map.old }
+    ensures onward { M.frontier map.old ≤ M.frontier map.new }
 {
     let start = part.start.min(page.len());
     let end = start + part.length.min(page.len() - start);

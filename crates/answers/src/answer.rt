@@ -18,10 +18,10 @@ pub const LONGEST_LINE: usize = 55;
 // Writes start, length, line, column and line_count of the label's window into the first bytes of the buffer and
 // answers how many bytes those are. With a fault the buffer is left as it came.
 pub fn answer<M: LineMap>(map: &mut M, line: &[u8], out: &mut [u8]) -> Result<usize, AnswerFault>
-    ensures told { result_map_both (λ n. n) answer_numbers result ≡ answered out.old (line_for (text map.old) line.now) }
-    ensures out { out.new ≡ buffer_after out.old (line_for (text map.old) line.now) }
-    ensures kept { text map.new ≡ text map.old }
-    ensures onward { frontier map.old ≤ frontier map.new }
+    ensures told { result_map_both (λ n. n) answer_numbers result ≡ answered out.old (line_for (M.text map.old) line.now) }
+    ensures out { out.new ≡ buffer_after out.old (line_for (M.text map.old) line.now) }
+    ensures kept { M.text map.new ≡ M.text map.old }
+    ensures onward { M.frontier map.old ≤ M.frontier map.new }
 {
     let label = read_label(line)?;
     let window = read(map, label.span, label.context).ok_or(AnswerFault::NoWindow)?;

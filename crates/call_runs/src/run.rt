@@ -13,10 +13,10 @@ use line_maps::reading::read;
 // runs holds of all that was told.
 pub fn run<M: LineMap>(map: &mut M, calls: &[Call], told: &mut [Told]) -> usize
     ensures count { result ≡ min (length calls.now) (length told.old) }
-    ensures law { Lawful (text map.old) (take result calls.now) (take result told.new) }
+    ensures law { Lawful (M.text map.old) (take result calls.now) (take result told.new) }
     ensures rest { drop result told.new ≡ drop result told.old }
-    ensures kept { text map.new ≡ text map.old }
-    ensures went { Went (take result calls.now) (frontier map.old) (frontier map.new) }
+    ensures kept { M.text map.new ≡ M.text map.old }
+    ensures went { Went (take result calls.now) (M.frontier map.old) (M.frontier map.new) }
 {
     let count = calls.len().min(told.len());
     for i in 0..count {
@@ -27,9 +27,9 @@ pub fn run<M: LineMap>(map: &mut M, calls: &[Call], told: &mut [Told]) -> usize
 
 // One call.
 pub fn serve<M: LineMap>(map: &mut M, call: Call) -> Told
-    ensures told { result ≡ reference (text map.old) call }
-    ensures kept { text map.new ≡ text map.old }
-    ensures moved { Moved call (frontier map.old) (frontier map.new) }
+    ensures told { result ≡ reference (M.text map.old) call }
+    ensures kept { M.text map.new ≡ M.text map.old }
+    ensures moved { Moved call (M.frontier map.old) (M.frontier map.new) }
 {
     match call {
         Call::Read(span, context) => Told::Shown(read(map, span, context)),

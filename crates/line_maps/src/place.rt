@@ -7,9 +7,9 @@ use lines::records::Place;
 
 // The line and column of an offset, none past the end. It learns about the text from the map alone.
 pub fn locate<M: LineMap>(map: &mut M, offset: u32) -> Option<Place>
-    ensures told { result ≡ place (text map.old) offset }
-    ensures kept { text map.new ≡ text map.old }
-    ensures onward { frontier map.old ≤ frontier map.new }
+    ensures told { result ≡ place (M.text map.old) offset }
+    ensures kept { M.text map.new ≡ M.text map.old }
+    ensures onward { M.frontier map.old ≤ M.frontier map.new }
 {
     let line = map.line_index_of(offset)?;
     let start = map.line_start_of(line)?;

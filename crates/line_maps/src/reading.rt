@@ -11,10 +11,10 @@ use lines::records::{Context, LineBreak, SourceSpan, Window};
 // it asks for the line of the offset, for starts of lines at or before it, and then for break after break from that
 // line on, counting lines as it goes.
 pub fn read<M: LineMap>(map: &mut M, span: SourceSpan, context: Context) -> Option<Window>
-    ensures told { result ≡ window (text map.old) span context }
-    ensures kept { text map.new ≡ text map.old }
-    ensures onward { frontier map.old ≤ frontier map.new }
-    ensures covers { OnSome result (Reached (covered map.old span.offset context.before) (frontier map.new)) }
+    ensures told { result ≡ window (M.text map.old) span context }
+    ensures kept { M.text map.new ≡ M.text map.old }
+    ensures onward { M.frontier map.old ≤ M.frontier map.new }
+    ensures covers { OnSome result (Reached (M.covered map.old span.offset context.before) (M.frontier map.new)) }
 {
     let length = map.length();
     let offset = span.offset();
@@ -55,9 +55,9 @@ fn open<M: LineMap>(
     line: u32,
     found: Option<LineBreak>,
 ) -> Option<Opening>
-    requires line { line ≡ line_of (breaks (text map.now)) offset }
-    requires found { found ≡ break_ending (breaks (text map.now)) line }
-    ensures told { MatchOption result ⊥ (λ first. (first.start ≡ window_start (breaks (text map.now)) offset before) × (first.line ≡ window_line (breaks (text map.now)) offset before) × (first.column ≡ column_of (breaks (text map.now)) (window_start (breaks (text map.now)) offset before))) }
+    requires line { line ≡ line_of (breaks (M.text map.now)) offset }
+    requires found { found ≡ break_ending (breaks (M.text map.now)) line }
+    ensures told { MatchOption result ⊥ (λ first. (first.start ≡ window_start (breaks (M.text map.now)) offset before) × (first.line ≡ window_line (breaks (M.text map.now)) offset before) × (first.column ≡ column_of (breaks (M.text map.now)) (window_start (breaks (M.text map.now)) offset before))) }
 {
     if before == 0 {
         let start = map.line_start_of(line)?;
@@ -96,14 +96,14 @@ fn close<M: LineMap>(
     line: u32,
     found: Option<LineBreak>,
 ) -> Closing
-    requires total { total ≡ length (text map.old) }
+    requires total { total ≡ length (M.text map.old) }
     requires end { end ≤ total + 1 }
-    requires line { line ≤ line_of (breaks (text map.old)) end }
-    requires found { found ≡ break_ending (breaks (text map.old)) line }
-    ensures end { result.end ≡ window_end_lem (length (text map.old)) (breaks (text map.old)) end after }
-    ensures lines { result.line_count ≡ line_of (breaks (text map.old)) result.end }
-    ensures kept { text map.new ≡ text map.old }
-    ensures onward { frontier map.old ≤ frontier map.new }
+    requires line { line ≤ line_of (breaks (M.text map.old)) end }
+    requires found { found ≡ break_ending (breaks (M.text map.old)) line }
+    ensures end { result.end ≡ window_end_lem (length (M.text map.old)) (breaks (M.text map.old)) end after }
+    ensures lines { result.line_count ≡ line_of (breaks (M.text map.old)) result.end }
+    ensures kept { M.text map.new ≡ M.text map.old }
+    ensures onward { M.frontier map.old ≤ M.frontier map.new }
 {
     let mut next = found;
     let mut passed = line;

@@ -32,7 +32,7 @@ returns-in-Some c =
           (c.len.ensures ∙ ap (λ s. s.length) c.span-span.ensures)
           c.line.ensures
           c.column.ensures
-          c.line_count_lem.ensures
+          c.line_count.ensures
           (ap length c.data-data.ensures)
           (c.hash.ensures ∙ ap hash_of c.data-data.ensures);
     }

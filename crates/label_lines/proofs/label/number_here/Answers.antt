@@ -15,9 +15,9 @@ field_number-requires c =
 
 pub returns-in_err-field_number-in-Field : goal.returns-in_err-field_number-in-Field
 returns-in_err-field_number-in-Field c =
-    let p = err_from_is_err_and c.from-residual.result c.from-residual.ensures.1 in
+    let p = err_from_is_err_and c.from_residual.result c.from_residual.ensures.1 in
     record {
-      told = rw (p.1, p.2) (c.in_err-field_number.ensures ∙ number_told _ _ _ _ c.requires.due c.next-place.ensures.part _ _ _ _ c.in-Field.is c.next-place.ensures.place);
+      told = rw (p.1, p.2) (c.in_err-field_number-in-Field.ensures ∙ number_told _ _ _ _ c.requires.due c.next-place.ensures.part _ _ _ _ c.in-Field.is c.next-place.ensures.place);
       left = past_here _ _ _ _ c.requires.due c.next-place.ensures.part _ c.next-place.ensures.at;
       line = c.next-place.ensures.line;
       due = none_due _ _ _ _ c.requires.due c.next-place.ensures.part _ c.next-place.ensures.due;
@@ -25,7 +25,7 @@ returns-in_err-field_number-in-Field c =
 
 pub returns-in_ok-field_number-in-Field : goal.returns-in_ok-field_number-in-Field
 returns-in_ok-field_number-in-Field c = record {
-  told = c.in_ok-field_number.ensures ∙ number_told _ _ _ _ c.requires.due c.next-place.ensures.part _ _ _ _ c.in-Field.is c.next-place.ensures.place;
+  told = c.in_ok-field_number-in-Field.ensures ∙ number_told _ _ _ _ c.requires.due c.next-place.ensures.part _ _ _ _ c.in-Field.is c.next-place.ensures.place;
   left = past_here _ _ _ _ c.requires.due c.next-place.ensures.part _ c.next-place.ensures.at;
   line = c.next-place.ensures.line;
   due = none_due _ _ _ _ c.requires.due c.next-place.ensures.part _ c.next-place.ensures.due;

@@ -10,10 +10,10 @@ returns-in_err-start g c =
     let t = g.M.LineMap.text c.args.map.now in
     absurd (starts t c.args.offset _ (index_is t c.args.offset _ (sym c.line_index_of.ensures ∙ c.in_ok-line.was)).1 (sym c.line_start_of.ensures ∙ c.in_err-start.was))
 
-on_line : (g : given.Over) (c : goal.After-row-known·1 g) → c.in_ok-line.line ≡ line_of (breaks (g.M.LineMap.text c.args.map.now)) c.args.offset
+on_line : (g : given.Over) (c : goal.After-row_known-1 g) → c.in_ok-line.line ≡ line_of (breaks (g.M.LineMap.text c.args.map.now)) c.args.offset
 on_line g c = (index_is (g.M.LineMap.text c.args.map.now) c.args.offset _ (sym c.line_index_of.ensures ∙ c.in_ok-line.was)).1
 
-low : (g : given.Over) (c : goal.After-row-known·1 g) → c.match-break_ending_line.at ≡ lowered (breaks (g.M.LineMap.text c.args.map.now)) c.args.offset
+low : (g : given.Over) (c : goal.After-row_known-1 g) → c.match-break_ending_line.at ≡ lowered (breaks (g.M.LineMap.text c.args.map.now)) c.args.offset
 low g c =
     let t = g.M.LineMap.text c.args.map.now in
     elim c.match-break_ending_line.branch [

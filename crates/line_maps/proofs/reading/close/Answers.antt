@@ -33,16 +33,16 @@ loop-next-preserved g c =
       c.break_ending_line-next.ensures.told ∙ ap (λ t. break_ending (breaks t) (c.loop-next.passed + 1)) old.0,
       elim c.if-found-end.branch [
         | then-found-end w ↦
-            subst (λ cut. Near t c.args.end c.args.after (c.loop-next.passed + 1) cut c.if-found-end.left) (sym (w.cut_is ∙ w.max-cut.ensures ∙ ap (max c.loop-next.cut) w.next_line_start.ensures))
+            subst (λ cut. Near t c.args.end c.args.after (c.loop-next.passed + 1) cut c.if-found-end.left) (sym (w.cut-is ∙ w.max-cut.ensures ∙ ap (max c.loop-next.cut) w.next_line_start.ensures))
             (subst (λ left. Near t c.args.end c.args.after (c.loop-next.passed + 1) (max c.loop-next.cut (past c.in-Some.found)) left) (sym w.left-is) (near_span t c.args.end old.3 c.in-Some.found at w.if-found-end.true))
         | else-found-end+else-after-eq0-2+else-left-eq0 w ↦
-            subst (λ cut. Near t c.args.end c.args.after (c.loop-next.passed + 1) cut c.if-found-end.left) (sym w.cut_is)
+            subst (λ cut. Near t c.args.end c.args.after (c.loop-next.passed + 1) cut c.if-found-end.left) (sym w.cut-is)
             (subst (λ left. Near t c.args.end c.args.after (c.loop-next.passed + 1) c.loop-next.cut left) (sym w.left-is) (near_after t c.args.end old.3 c.in-Some.found at w.if-found-end.false w.if-after-eq0-2.false w.if-left-eq0.false))
       ],
     )
 
 -- what the search yielded
-closed : (g : given.Over) (c : goal.After-row-known·1 g) → (c.match-next.window_end ≡ window_end_lem (length (g.M.LineMap.text c.args.map.now)) (breaks (g.M.LineMap.text c.args.map.now)) c.args.end c.args.after) × (c.match-next.passed ≡ line_of (breaks (g.M.LineMap.text c.args.map.now)) (window_end_lem (length (g.M.LineMap.text c.args.map.now)) (breaks (g.M.LineMap.text c.args.map.now)) c.args.end c.args.after))
+closed : (g : given.Over) (c : goal.After-row_known-1 g) → (c.match-next.window_end ≡ window_end_lem (length (g.M.LineMap.text c.args.map.now)) (breaks (g.M.LineMap.text c.args.map.now)) c.args.end c.args.after) × (c.match-next.passed ≡ line_of (breaks (g.M.LineMap.text c.args.map.now)) (window_end_lem (length (g.M.LineMap.text c.args.map.now)) (breaks (g.M.LineMap.text c.args.map.now)) c.args.end c.args.after))
 closed g c =
     let t = g.M.LineMap.text c.args.map.now in
     let old = c.loop-next.invariant in

@@ -10,7 +10,7 @@ use Rattle.line_maps.proofs.reading.open.Goals.{in-Some, in-None}
 pub returns-in_err-start : goal.returns-in_err-start
 returns-in_err-start g c = absurd (starts (g.M.LineMap.text c.args.map.now) c.args.offset c.args.line c.requires.line (sym c.line_start_of.ensures ∙ c.in_err-start.was))
 
-low : (g : given.Over) (c : goal.After-row-known·1 g) → c.match-found.at ≡ lowered (breaks (g.M.LineMap.text c.args.map.now)) c.args.offset
+low : (g : given.Over) (c : goal.After-row_known-1 g) → c.match-found.at ≡ lowered (breaks (g.M.LineMap.text c.args.map.now)) c.args.offset
 low g c =
     let t = g.M.LineMap.text c.args.map.now in
     elim c.match-found.branch [

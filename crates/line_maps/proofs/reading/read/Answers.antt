@@ -29,13 +29,13 @@ close-last-requires g c =
     }
 
 -- the texts are one, and the spans too
-start_is : (g : given.Over) (c : goal.After-struct-known-3·1 g) → c.in_ok-first.first.start ≡ window_start (breaks (g.M.LineMap.text c.args.map.now)) c.args.span.offset c.args.context.before
+start_is : (g : given.Over) (c : goal.After-struct_known-3-1 g) → c.in_ok-first.first.start ≡ window_start (breaks (g.M.LineMap.text c.args.map.now)) c.args.span.offset c.args.context.before
 start_is g c =
     c.in_ok-first.ensures.told.0
     ∙ ap (λ t. window_start (breaks t) c.offset-offset.result c.args.context.before) (c.break_ending_line-found.ensures.kept ∙ c.cover.ensures.kept)
     ∙ ap (λ o. window_start (breaks (g.M.LineMap.text c.args.map.now)) o c.args.context.before) c.offset-offset.ensures
 
-end_is : (g : given.Over) (c : goal.After-struct-known-3·1 g) → c.close-last.result.end ≡ window_end_lem (length (g.M.LineMap.text c.args.map.now)) (breaks (g.M.LineMap.text c.args.map.now)) (c.args.span.offset + c.args.span.length) c.args.context.after
+end_is : (g : given.Over) (c : goal.After-struct_known-3-1 g) → c.close-last.result.end ≡ window_end_lem (length (g.M.LineMap.text c.args.map.now)) (breaks (g.M.LineMap.text c.args.map.now)) (c.args.span.offset + c.args.span.length) c.args.context.after
 end_is g c =
     let t = g.M.LineMap.text c.args.map.now in
     c.close-last.ensures.end
@@ -43,10 +43,10 @@ end_is g c =
     ∙ ap (λ o. window_end_lem (length t) (breaks t) (o + c.len.result) c.args.context.after) c.offset-offset.ensures
     ∙ ap (λ l. window_end_lem (length t) (breaks t) (c.args.span.offset + l) c.args.context.after) c.len.ensures
 
-fits : (g : given.Over) (c : goal.After-struct-known-3·1 g) → c.args.span.offset + c.args.span.length ≤ length (g.M.LineMap.text c.args.map.now) + 1
+fits : (g : given.Over) (c : goal.After-struct_known-3-1 g) → c.args.span.offset + c.args.span.length ≤ length (g.M.LineMap.text c.args.map.now) + 1
 fits g c = omega (arith, c.if-end-length.false, c.offset-offset.ensures, c.len.ensures, c.length-length.ensures)
 
-inner : (g : given.Over) (c : goal.After-struct-known-3·1 g) → c.args.context.before ≡ 0 → c.args.span.offset ≤ length (g.M.LineMap.text c.args.map.now)
+inner : (g : given.Over) (c : goal.After-struct_known-3-1 g) → c.args.context.before ≡ 0 → c.args.span.offset ≤ length (g.M.LineMap.text c.args.map.now)
 inner g c none = elim c.else-context-eq0.branch [
   | else-context-eq0-via-then-context-eq0+else-offset-length w ↦ omega (arith, w.if-offset-length.false, c.offset-offset.ensures, c.length-length.ensures)
   | else-context-eq0-via-else-context-eq0 w ↦ absurd (w.if-context-eq0.false none)
