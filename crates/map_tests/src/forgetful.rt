@@ -19,13 +19,13 @@ impl<M> Forgetful<M> {
 }
 
 impl<M: LineMap> LineMap for Forgetful<M> {
-    ghost text = { λ m. text m.inner };
+    ghost text = { λ m. M.text m.inner };
 
     ghost frontier = { λ _. 0 };
 
     ghost covered = { λ _ _ _ f. f ≡ 0 };
 
-    ghost short = { λ m. short m.inner };
+    ghost short = { λ m. M.short m.inner };
 
     fn length(&self) -> u32 {
         self.inner.length()
