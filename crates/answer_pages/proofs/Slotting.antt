@@ -1,5 +1,5 @@
 -- One run answers each label line into its own slot, and none of them touches another's. Assumes nothing.
-use Rattle.std.proofs.Common.{◌≡◌, ℕ, zero, suc, ◌+◌, ◌-◌, ◌*◌, ◌<◌, ◌≤◌, min, true, false, cond, leb, List, [], ◌∷◌, ◌++◌, map, length, take, drop, Some, None, Ok, Err, Option, Result, sym, refl, ap, ◌∙◌, subst, ⊎_elim, append_assoc, arith, Bor}
+use Rattle.std.proofs.Common.{◌≡◌, ℕ, ◌+◌, ◌*◌, ◌≤◌, true, false, cond, leb, List, [], ◌∷◌, ◌++◌, map, length, take, drop, Ok, Err, Result, sym, refl, ap, ◌∙◌, subst, ⊎_elim, append_assoc, arith, Bor}
 use Rattle.std.specs.List.{flat_map}
 use Rattle.std.proofs.lemmas.List.{length-append, length-take, length-drop, length-take-le, take-append-le, take-take, take_at, take_all, drop_at, drop-drop, drop-take}
 use Rattle.std.proofs.lemmas.Bool.{cases_Bool, leb-true, le-leb}
@@ -9,7 +9,6 @@ use Rattle.answer_runs.specs.Reference.{buffer_at, with_buffer_lem, reference, h
 use Rattle.answer_runs.specs.RunLaw.{Lawful}
 use Rattle.answer_runs.specs.declared.calls.Call.{Call}
 use Rattle.answer_runs.specs.declared.calls.Call.TheVariants.{Read, Locate, Answer, Forget}
-use Rattle.answer_runs.specs.declared.calls.PagePart.{PagePart}
 use Rattle.answer_runs.specs.declared.calls.Told.{Told}
 use Rattle.answer_runs.specs.declared.calls.Told.TheVariants.{Answered}
 use Rattle.answer_pages.specs.Pages.{printed}

@@ -1,15 +1,13 @@
 -- What the reference tells keeps the law of runs. Assumes nothing.
-use Rattle.std.proofs.Common.{◌≡◌, ℕ, zero, suc, ◌+◌, ◌≤◌, Bool, true, false, cond, ◌⊎◌, List, [], ◌∷◌, length, take, Some, None, Option, sym, refl, ap, ◌∙◌, subst, ⊎_elim, arith}
+use Rattle.std.proofs.Common.{◌≡◌, ℕ, zero, suc, ◌+◌, ◌≤◌, true, false, cond, List, [], ◌∷◌, length, take, Some, None, Option, sym, refl, ap, ◌∙◌, ⊎_elim, arith}
 use Rattle.std.proofs.lemmas.Bool.{cases_Bool}
 use Rattle.std.specs.Option.{option_map, option_flatten}
-use Rattle.lines.specs.Breaks.{place}
-use Rattle.lines.specs.Payloads.{Payload, payload, look_up}
-use Rattle.lines.specs.Spans.{span_of}
+use Rattle.lines.specs.Payloads.{Payload, payload}
 use Rattle.lines.specs.Windows.{has_none, window}
 use Rattle.lines.specs.declared.records.Context.{Context}
 use Rattle.lines.specs.declared.records.SourceSpan.{SourceSpan}
 use Rattle.lines.specs.declared.records.Window.{Window}
-use Rattle.payloads.specs.Law.{bare, start_place, Within, Agrees, Holds}
+use Rattle.payloads.specs.Law.{Agrees, Holds}
 use Rattle.payloads.specs.Readings.{reading}
 use Rattle.payloads.proofs.Whole.{the_window, reading_is, read_agrees, read_answers, read_holds}
 use Rattle.label_lines.specs.Labels.{followed}

@@ -1,5 +1,5 @@
 -- The first i calls of a run are served. Assumes nothing.
-use Rattle.std.proofs.Common.{◌≡◌, ℕ, zero, suc, ◌+◌, ◌-◌, ◌<◌, ◌≤◌, List, [], ◌∷◌, ◌++◌, length, get_or, take, drop, set, sym, refl, ap, ◌∙◌, subst, arith}
+use Rattle.std.proofs.Common.{◌≡◌, ℕ, ◌+◌, ◌<◌, List, [], ◌∷◌, ◌++◌, length, get_or, take, drop, set, sym, refl, ap, ◌∙◌, subst, arith}
 use Rattle.std.proofs.lemmas.List.{take_more_set, take_more, drop-set-lt, drop-drop}
 use Rattle.answer_runs.specs.Reference.{reference, handed_in, page_after, tells, page_left, Moved, Went}
 use Rattle.answer_runs.specs.declared.calls.Call.{Call}

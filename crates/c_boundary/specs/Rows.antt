@@ -1,5 +1,5 @@
 -- What goes over the boundary: flags and rows of numbers. Assumes nothing.
-use Rattle.std.specs.Prelude.{ℕ, ◌*◌, ◌%◌, ◌^◌, Bool, true, false, cond, List, [], ◌∷◌, length, Some, None, fold, Option, bit_xor, nat_le, slice_set}
+use Rattle.std.specs.Prelude.{ℕ, ◌*◌, ◌%◌, ◌^◌, cond, List, length, Some, None, fold, Option, bit_xor, nat_le, slice_set}
 use Rattle.lines.specs.Payloads.{Payload, look_up}
 use Rattle.lines.specs.declared.records.Context.{Context}
 use Rattle.lines.specs.declared.records.Place.{Place}

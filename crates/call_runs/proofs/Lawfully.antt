@@ -1,23 +1,21 @@
 -- What the reference tells keeps the law of runs. Assumes nothing.
-use Rattle.std.proofs.Common.{◌≡◌, ℕ, zero, suc, ◌+◌, ◌≤◌, Bool, true, false, cond, ◌⊎◌, List, [], ◌∷◌, map, length, Some, None, Option, sym, refl, ap, ◌∙◌, subst, ⊎_elim, arith}
+use Rattle.std.proofs.Common.{◌≡◌, ℕ, zero, suc, ◌+◌, ◌≤◌, true, false, cond, List, [], ◌∷◌, map, length, Some, None, Option, sym, refl, ap, ◌∙◌, ⊎_elim, arith}
 use Rattle.std.proofs.lemmas.Bool.{cases_Bool}
 use Rattle.std.specs.Option.{option_map, option_flatten}
-use Rattle.lines.specs.Breaks.{place}
-use Rattle.lines.specs.Payloads.{Payload, payload, look_up}
-use Rattle.lines.specs.Spans.{span_of}
+use Rattle.lines.specs.Payloads.{Payload, payload}
 use Rattle.lines.specs.Windows.{has_none, window}
 use Rattle.lines.specs.declared.records.Context.{Context}
 use Rattle.lines.specs.declared.records.SourceSpan.{SourceSpan}
 use Rattle.lines.specs.declared.records.Window.{Window}
-use Rattle.payloads.specs.Law.{bare, start_place, Within, Agrees, Holds}
+use Rattle.payloads.specs.Law.{Agrees, Holds}
 use Rattle.payloads.specs.Readings.{reading}
 use Rattle.payloads.proofs.Whole.{the_window, reading_is, read_agrees, read_answers, read_holds}
 use Rattle.call_runs.specs.Reference.{reference}
 use Rattle.call_runs.specs.RunLaw.{at, WasRead, Lawful}
 use Rattle.call_runs.specs.declared.calls.Call.{Call}
-use Rattle.call_runs.specs.declared.calls.Call.TheVariants.{Read, Locate, Forget}
+use Rattle.call_runs.specs.declared.calls.Call.TheVariants.{Read, Locate}
 use Rattle.call_runs.specs.declared.calls.Told.{Told}
-use Rattle.call_runs.specs.declared.calls.Told.TheVariants.{Shown, Located, Nothing}
+use Rattle.call_runs.specs.declared.calls.Told.TheVariants.{Shown, Located}
 
 at_map : {A B : Type 0} (f : A → B) (xs : List A) (i : ℕ) → at (map f xs) i ≡ option_map f (at xs i)
 at_map f [] i = refl

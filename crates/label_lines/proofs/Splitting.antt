@@ -1,5 +1,5 @@
 -- The fields of a line, and what a reader hands out of them. Assumes nothing.
-use Rattle.std.proofs.Common.{◌≡◌, ℕ, zero, suc, ◌+◌, ◌-◌, ◌<◌, ◌≤◌, Bool, true, false, cond, not, eqb, ltb, ◌⊎◌, List, [], ◌∷◌, length, get_or, take, drop, Ok, Err, sym, refl, ap, ◌∙◌, ⊎_elim, arith, Bor}
+use Rattle.std.proofs.Common.{◌≡◌, ℕ, zero, suc, ◌+◌, ◌-◌, ◌<◌, ◌≤◌, Bool, true, false, cond, eqb, ltb, List, [], ◌∷◌, length, take, drop, Ok, Err, sym, refl, ap, ◌∙◌, ⊎_elim, arith, Bor}
 use Rattle.std.specs.List.{prefix_len}
 use Rattle.std.proofs.lemmas.List.{drop-drop, drop_more, drop_all, length-take, length-drop}
 use Rattle.std.proofs.lemmas.Bool.{cases_Bool, ltb-true, ltb-false, lt-ltb, le-ltb}
@@ -7,7 +7,7 @@ use Rattle.std.proofs.lemmas.Bool.Decides.{nat_tests}
 use Rattle.label_lines.specs.Faults.{fault}
 use Rattle.label_lines.specs.Fields.{field_of}
 use Rattle.label_lines.specs.Labels.{begun, fields_from, fields_after, fields_at, fields_past, number_in, line_end_lem}
-use Rattle.label_lines.specs.Parts.{Piece, field, comma, end, piece_of, not_comma, field_length, piece_at, place_after_lem, due_after}
+use Rattle.label_lines.specs.Parts.{field, comma, end, piece_of, not_comma, field_length, piece_at, place_after_lem, due_after}
 use Rattle.label_lines.specs.declared.parts.Part.{Part}
 use Rattle.label_lines.specs.declared.parts.Part.TheVariants.{Field, Comma, End}
 

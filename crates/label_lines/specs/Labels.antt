@@ -1,5 +1,5 @@
 -- The label in a line, or what is wrong with the line. Assumes nothing.
-use Rattle.std.specs.Prelude.{ℕ, ◌+◌, ◌-◌, Bool, true, false, cond, List, [], ◌∷◌, length, drop, Ok, Err, Result, ◌==◌, nat_lt}
+use Rattle.std.specs.Prelude.{ℕ, ◌+◌, ◌-◌, cond, List, [], ◌∷◌, length, drop, Ok, Err, Result, ◌==◌, nat_lt}
 use Rattle.lines.specs.Spans.{span_of}
 use Rattle.lines.specs.declared.records.Fault.{Fault}
 use Rattle.label_lines.specs.Faults.{fault}

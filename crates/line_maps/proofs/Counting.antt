@@ -1,5 +1,5 @@
 -- Counting breaks from the front. Assumes nothing.
-use Rattle.std.proofs.Common.{◌≡◌, ℕ, zero, suc, ◌+◌, ◌<◌, ◌≤◌, List, [], ◌∷◌, length, Some, None, Option, sym, refl, ap, ◌∙◌, subst, arith}
+use Rattle.std.proofs.Common.{◌≡◌, ℕ, zero, suc, ◌+◌, ◌<◌, ◌≤◌, List, [], ◌∷◌, length, Some, None, sym, refl, ap, ◌∙◌, arith}
 use Rattle.lines.specs.Breaks.{breaks, break_ending, past, line_of, next_break_lem}
 use Rattle.lines.specs.declared.records.LineBreak.{LineBreak}
 use Rattle.lines.proofs.BreakLaws.{line_none, few, every_list}

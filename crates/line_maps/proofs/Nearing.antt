@@ -1,5 +1,5 @@
 -- Going from break to break to the end of a window. Assumes nothing.
-use Rattle.std.proofs.Common.{◌≡◌, ℕ, zero, suc, ◌+◌, ◌-◌, ◌<◌, ◌≤◌, min, max, Bool, true, false, cond, ◌&&◌, ltb, leb, ◌⊎◌, List, [], ◌∷◌, length, drop, Some, None, Option, unwrap_or, sym, refl, ap, ◌∙◌, subst, inl, inr, ⊎_elim, arith}
+use Rattle.std.proofs.Common.{◌≡◌, ℕ, zero, suc, ◌+◌, ◌-◌, ◌<◌, ◌≤◌, min, max, true, false, ltb, leb, ◌⊎◌, List, [], ◌∷◌, length, drop, Some, None, unwrap_or, sym, refl, ap, ◌∙◌, inl, inr, ⊎_elim, arith}
 use Rattle.std.proofs.lemmas.Bool.{cases_eq}
 use Rattle.std.proofs.lemmas.Bool.Decides.{nat_tests, leb_tells}
 use Rattle.std.specs.Option.{option_map}
@@ -14,7 +14,7 @@ use Rattle.payloads.proofs.Ends.{cut_ge, cut_none, cut_more, cut_same, end_trail
 use Rattle.payloads.proofs.Passing.{rising}
 use Rattle.payloads.proofs.Stepping.{ends_pair, from_start, start_le}
 use Rattle.payloads.proofs.Walking.{line_few, no_line}
-use Rattle.payloads.proofs.Whole.{Ended, ended_cut, ended}
+use Rattle.payloads.proofs.Whole.{ended_cut}
 use Rattle.line_maps.proofs.Counting.{none_length}
 
 -- break k starts before e exactly if it is counted at the cut after e

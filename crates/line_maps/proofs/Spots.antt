@@ -1,12 +1,11 @@
 -- The place of an offset, from what a line map tells. Assumes nothing.
-use Rattle.std.proofs.Common.{◌≡◌, ℕ, zero, suc, ◌+◌, ◌-◌, ◌<◌, ◌≤◌, min, Bool, true, false, cond, ◌&&◌, ltb, leb, ◌⊎◌, List, [], ◌∷◌, length, Some, None, Option, unwrap_or, sym, refl, ap, ◌∙◌, subst, ⊎_elim, arith}
+use Rattle.std.proofs.Common.{◌≡◌, ℕ, zero, suc, ◌-◌, ◌<◌, ◌≤◌, min, true, false, cond, leb, List, [], ◌∷◌, length, Some, None, unwrap_or, sym, refl, ap, ◌∙◌, ⊎_elim, arith}
 use Rattle.std.proofs.lemmas.Bool.Decides.{nat_tests, leb_tells}
 use Rattle.lines.specs.Breaks.{breaks, break_ending, past, line_start_lem, line_of, lowered, column_of, place_of, place}
 use Rattle.lines.specs.Laws.{Rising}
 use Rattle.lines.specs.Windows.{window_line, window_start}
 use Rattle.lines.specs.declared.records.LineBreak.{LineBreak}
-use Rattle.lines.specs.declared.records.Place.{Place}
-use Rattle.lines.proofs.BreakLaws.{line_none, lowered_none, lower_law, every_list}
+use Rattle.lines.proofs.BreakLaws.{line_none, lowered_none, every_list}
 use Rattle.payloads.proofs.Ends.{line_there}
 use Rattle.payloads.proofs.Passing.{rising}
 use Rattle.payloads.proofs.Stepping.{from_start}

@@ -1,5 +1,5 @@
 -- What a read has found of a window, and that this is the window. Assumes nothing.
-use Rattle.std.proofs.Common.{◌≡◌, ℕ, ◌+◌, ◌-◌, ◌<◌, ◌≤◌, min, Bool, true, false, cond, ◌&&◌, ◌||◌, eqb, ltb, leb, List, length, Some, None, Option, sym, refl, ap, ◌∙◌, subst, arith}
+use Rattle.std.proofs.Common.{◌≡◌, ℕ, ◌+◌, ◌-◌, ◌≤◌, min, false, cond, ◌&&◌, eqb, ltb, List, length, Some, None, sym, ap, ◌∙◌, arith}
 use Rattle.std.proofs.lemmas.Bool.Decides.{nat_tests}
 use Rattle.lines.specs.Breaks.{breaks, line_of, column_of}
 use Rattle.lines.specs.Windows.{has_none, window_line, window_start, window_end_lem, window_at, window}

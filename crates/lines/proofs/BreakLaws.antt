@@ -1,9 +1,9 @@
 -- The laws of breaks and lines, by any line rule, from which all else is proved. Assumes nothing.
-use Rattle.std.proofs.Common.{◌≡◌, ℕ, zero, suc, pred, ◌+◌, ◌-◌, ◌<◌, ◌≤◌, Bool, true, false, cond, ◌&&◌, ltb, leb, ◌⊎◌, List, [], ◌∷◌, ◌++◌, length, take, drop, Some, None, Option, sym, refl, ap, ◌∙◌, subst, ⊎_elim, arith}
+use Rattle.std.proofs.Common.{◌≡◌, ℕ, zero, suc, pred, ◌+◌, ◌<◌, ◌≤◌, true, false, ltb, leb, List, [], ◌∷◌, ◌++◌, length, take, drop, Some, None, Option, sym, refl, ap, ◌∙◌, subst, ⊎_elim, arith}
 use Rattle.std.proofs.lemmas.Bool.Decides.{nat_tests, leb_tells}
 use Rattle.std.specs.Option.{option_map}
-use Rattle.lines.specs.Breaks.{opened, breaks_by, break_ending, past, line_start_lem, line_of, inside, lowered}
-use Rattle.lines.specs.Laws.{LineRule, Rising, BreaksOf, LinesOf, EveryText, EveryList}
+use Rattle.lines.specs.Breaks.{opened, breaks_by, break_ending, past, line_start_lem, line_of, lowered}
+use Rattle.lines.specs.Laws.{LineRule, Rising, EveryText, EveryList}
 use Rattle.lines.specs.declared.records.LineBreak.{LineBreak}
 
 pub rising_from : (i j : ℕ) (bs : List LineBreak) (n : ℕ) → i ≤ j → Rising j bs n → Rising i bs n

@@ -1,13 +1,13 @@
 -- How the next break is found, and when an offset lies inside one. Assumes nothing.
-use Rattle.std.proofs.Common.{◌≡◌, ℕ, zero, suc, pred, ◌+◌, ◌-◌, ◌<◌, ◌≤◌, min, Bool, true, false, cond, not, ◌&&◌, ◌||◌, eqb, ltb, leb, ◌⊎◌, List, [], ◌∷◌, ◌++◌, length, take, drop, Some, None, Option, sym, refl, ap, ◌∙◌, subst, ⊎_elim, arith}
+use Rattle.std.proofs.Common.{◌≡◌, ℕ, zero, suc, pred, ◌+◌, ◌-◌, ◌<◌, ◌≤◌, min, Bool, true, false, cond, eqb, ltb, leb, List, [], ◌∷◌, ◌++◌, length, take, drop, Some, None, Option, sym, refl, ap, ◌∙◌, ⊎_elim, arith}
 use Rattle.std.proofs.lemmas.List.{drop_all, drop-drop, length-drop, length-take, take_all}
 use Rattle.std.proofs.lemmas.List.Sums.{prefix_len-le-length}
 use Rattle.std.proofs.lemmas.Bool.{cases_Bool}
 use Rattle.std.proofs.lemmas.Bool.Decides.{nat_tests, leb_tells}
 use Rattle.std.specs.List.{prefix_len}
-use Rattle.lines.specs.Breaks.{seen, opened, breaks_by, breaks, break_ending, past, line_of, next_break_lem, inside, lowered}
+use Rattle.lines.specs.Breaks.{seen, opened, breaks_by, breaks, break_ending, past, line_of, next_break_lem, lowered}
 use Rattle.lines.specs.Laws.{Rising}
-use Rattle.lines.specs.LineRule.{ends_line_lem, is_pair, width}
+use Rattle.lines.specs.LineRule.{ends_line_lem, width}
 use Rattle.lines.specs.Endings.{is_plain, next_ending_lem}
 use Rattle.lines.specs.declared.records.LineBreak.{LineBreak}
 use Rattle.lines.proofs.BreakLaws.{lowered_none, rising_by, Lies, lies, every_text, every_list}

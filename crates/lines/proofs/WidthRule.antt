@@ -1,7 +1,7 @@
 -- The line rule is a line rule by the laws' meaning. Assumes nothing.
-use Rattle.std.proofs.Common.{◌≡◌, ℕ, zero, suc, ◌≤◌, cond, ◌&&◌, ◌||◌, eqb, List, [], ◌∷◌, length, take, refl, arith}
+use Rattle.std.proofs.Common.{◌≡◌, ℕ, zero, suc, ◌≤◌, List, [], ◌∷◌, length, take, refl, arith}
 use Rattle.std.proofs.lemmas.Bool.Decides.{nat_tests}
-use Rattle.lines.specs.LineRule.{ends_line_lem, is_pair, width}
+use Rattle.lines.specs.LineRule.{width}
 use Rattle.lines.specs.Laws.{LineRule}
 
 narrow : (t : List ℕ) → width t ≤ 3

@@ -1,19 +1,18 @@
 -- A part of a text that ends outside every break has the places of the text. Assumes nothing.
-use Rattle.std.proofs.Common.{◌≡◌, ℕ, zero, suc, ◌+◌, ◌-◌, ◌<◌, ◌≤◌, min, Bool, true, false, cond, ◌&&◌, ◌||◌, eqb, ltb, leb, ◌⊎◌, List, [], ◌∷◌, ◌++◌, length, take, drop, Some, None, Option, unwrap_or, sym, refl, ap, ◌∙◌, subst, ⊎_elim, arith}
-use Rattle.std.proofs.lemmas.List.{drop-drop, drop-take, length-drop, length-take, length-take-le, take-take}
+use Rattle.std.proofs.Common.{◌≡◌, ℕ, zero, suc, ◌+◌, ◌-◌, ◌<◌, ◌≤◌, true, cond, leb, List, [], ◌∷◌, ◌++◌, length, take, drop, Some, None, unwrap_or, sym, refl, ap, ◌∙◌, subst, ⊎_elim, arith}
+use Rattle.std.proofs.lemmas.List.{drop-drop, drop-take, length-drop, length-take-le}
 use Rattle.std.proofs.lemmas.Bool.{cases_eq}
 use Rattle.std.proofs.lemmas.Bool.Decides.{nat_tests, leb_tells}
-use Rattle.std.specs.Option.{option_map}
-use Rattle.lines.specs.Breaks.{breaks, breaks_by, break_ending, past, line_start_lem, line_of, lowered, column_of, place_of, place}
+use Rattle.lines.specs.Breaks.{breaks, breaks_by, past, line_start_lem, line_of, lowered, column_of, place_of, place}
 use Rattle.lines.specs.LineRule.{width}
-use Rattle.lines.specs.Payloads.{Payload, column_after, place_after_lem, look_up}
+use Rattle.lines.specs.Payloads.{column_after, place_after_lem, look_up}
 use Rattle.lines.specs.declared.records.LineBreak.{LineBreak}
 use Rattle.lines.specs.declared.records.Place.{Place}
 use Rattle.lines.specs.declared.records.Window.{Window}
 use Rattle.lines.proofs.BreakLaws.{every_text, every_list}
 use Rattle.lines.proofs.Finding.{lowered_in, two}
 use Rattle.lines.proofs.WidthRule.{width_rule}
-use Rattle.payloads.proofs.Passing.{rising, lowered_le}
+use Rattle.payloads.proofs.Passing.{rising}
 use Rattle.payloads.proofs.Stepping.{plain_line, plain_column, line_at_end, ends_column, pair_line, pair_column}
 use Rattle.payloads.proofs.Walking.{line_first, column_first, widest}
 

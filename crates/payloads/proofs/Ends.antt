@@ -1,12 +1,12 @@
 -- Where a window starts and ends, by what a walk comes to. Assumes nothing.
-use Rattle.std.proofs.Common.{◌≡◌, ℕ, zero, suc, ◌+◌, ◌-◌, ◌<◌, ◌≤◌, min, Bool, true, false, cond, ◌&&◌, ltb, leb, ◌⊎◌, List, [], ◌∷◌, length, drop, Some, None, Option, unwrap_or, sym, refl, ap, ◌∙◌, subst, ⊎_elim, arith}
+use Rattle.std.proofs.Common.{◌≡◌, ℕ, zero, suc, ◌+◌, ◌-◌, ◌<◌, ◌≤◌, min, true, false, ltb, leb, List, [], ◌∷◌, length, drop, Some, unwrap_or, sym, refl, ap, ◌∙◌, ⊎_elim, arith}
 use Rattle.std.proofs.lemmas.List.{length-drop}
 use Rattle.std.proofs.lemmas.Bool.Decides.{nat_tests, leb_tells}
 use Rattle.std.specs.Option.{option_map}
 use Rattle.lines.specs.Breaks.{breaks, break_ending, past, line_start_lem, line_of, lowered, column_of}
 use Rattle.lines.specs.Laws.{Rising}
 use Rattle.lines.specs.LineRule.{width}
-use Rattle.lines.specs.Windows.{window_line, window_start, cut_after_lem, starting_from, end_after, window_end_lem}
+use Rattle.lines.specs.Windows.{window_line, window_start, cut_after_lem, starting_from, window_end_lem}
 use Rattle.lines.specs.declared.records.LineBreak.{LineBreak}
 use Rattle.lines.proofs.BreakLaws.{line_none, lies, every_list}
 use Rattle.lines.proofs.Finding.{lowered_not}

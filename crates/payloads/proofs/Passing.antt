@@ -1,11 +1,11 @@
 -- The place so far, and the breaks that are left to pass. Assumes nothing.
-use Rattle.std.proofs.Common.{◌≡◌, ℕ, ◌+◌, ◌-◌, ◌<◌, ◌≤◌, min, List, [], ◌∷◌, length, take, drop, Some, None, sym, refl, ap, ◌∙◌, subst, ⊎_elim, arith}
-use Rattle.std.proofs.lemmas.List.{length-take, take_all}
+use Rattle.std.proofs.Common.{◌≡◌, ℕ, ◌+◌, ◌-◌, ◌≤◌, min, List, ◌∷◌, length, take, drop, Some, None, sym, ap, ◌∙◌, ⊎_elim, arith}
+use Rattle.std.proofs.lemmas.List.{take_all}
 use Rattle.std.proofs.lemmas.Bool.Decides.{leb_tells}
-use Rattle.lines.specs.Breaks.{breaks, break_ending, past, line_of, next_break_lem, lowered}
+use Rattle.lines.specs.Breaks.{breaks, past, line_of, next_break_lem, lowered}
 use Rattle.lines.specs.Laws.{Rising}
 use Rattle.lines.specs.LineRule.{width}
-use Rattle.lines.specs.Payloads.{column_after, place_after_lem}
+use Rattle.lines.specs.Payloads.{column_after}
 use Rattle.lines.specs.declared.records.LineBreak.{LineBreak}
 use Rattle.lines.specs.declared.records.Place.{Place}
 use Rattle.lines.proofs.BreakLaws.{line_none, Lies, drop_some, drop_none, few, lower_law, every_text}

@@ -1,13 +1,13 @@
 -- How lines and columns change from one offset to the next, by the width of the break that begins there. Assumes nothing.
-use Rattle.std.proofs.Common.{◌≡◌, ℕ, zero, suc, pred, ◌+◌, ◌-◌, ◌<◌, ◌≤◌, Bool, true, false, cond, ◌&&◌, ◌||◌, eqb, ltb, leb, ◌⊎◌, List, [], ◌∷◌, ◌++◌, length, get_or, take, drop, Some, None, Option, unwrap_or, sym, refl, ap, ◌∙◌, subst, ⊎_elim, arith}
-use Rattle.std.proofs.lemmas.List.{drop_more, length-append, length-drop}
+use Rattle.std.proofs.Common.{◌≡◌, ℕ, zero, suc, pred, ◌+◌, ◌-◌, ◌<◌, ◌≤◌, true, List, [], ◌∷◌, length, get_or, take, drop, Some, None, Option, unwrap_or, sym, refl, ap, ◌∙◌, ⊎_elim, arith}
+use Rattle.std.proofs.lemmas.List.{drop_more, length-append}
 use Rattle.std.proofs.lemmas.Bool.{cases_eq}
 use Rattle.std.proofs.lemmas.Bool.Decides.{nat_tests, leb_tells}
 use Rattle.std.specs.Option.{option_map}
-use Rattle.lines.specs.Breaks.{opened, breaks_by, breaks, break_ending, past, line_start_lem, line_of, next_break_lem, lowered, column_of}
-use Rattle.lines.specs.LineRule.{ends_line_lem, is_pair, width}
+use Rattle.lines.specs.Breaks.{opened, breaks_by, breaks, break_ending, past, line_start_lem, line_of, lowered, column_of}
+use Rattle.lines.specs.LineRule.{ends_line_lem, width}
 use Rattle.lines.specs.declared.records.LineBreak.{LineBreak}
-use Rattle.lines.proofs.BreakLaws.{Lies, lies, every_text, every_list}
+use Rattle.lines.proofs.BreakLaws.{lies, every_text, every_list}
 use Rattle.lines.proofs.Finding.{lowered_in, lowered_not, finds_some}
 use Rattle.lines.proofs.Seeking.{stops}
 use Rattle.lines.proofs.WidthRule.{width_rule}

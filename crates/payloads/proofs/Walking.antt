@@ -1,12 +1,11 @@
 -- What a walk through a text knows, and how far it goes. Assumes nothing.
-use Rattle.std.proofs.Common.{◌≡◌, ℕ, zero, suc, ◌+◌, ◌-◌, ◌<◌, ◌≤◌, cond, ltb, ◌⊎◌, List, [], ◌∷◌, length, drop, Some, None, Option, unwrap_or, sym, refl, ap, ◌∙◌, subst, inl, inr, ⊎_elim, arith}
+use Rattle.std.proofs.Common.{◌≡◌, ℕ, zero, suc, ◌+◌, ◌<◌, ◌≤◌, ◌⊎◌, List, [], ◌∷◌, length, drop, Some, None, unwrap_or, sym, refl, ap, ◌∙◌, inl, inr, ⊎_elim, arith}
 use Rattle.std.proofs.lemmas.Bool.{cases_eq}
-use Rattle.std.proofs.lemmas.Bool.Decides.{nat_tests, leb_tells}
-use Rattle.std.specs.Option.{option_map}
-use Rattle.lines.specs.Breaks.{breaks, break_ending, past, line_start_lem, line_of, lowered, column_of}
+use Rattle.std.proofs.lemmas.Bool.Decides.{nat_tests}
+use Rattle.lines.specs.Breaks.{breaks, line_start_lem, line_of, column_of}
 use Rattle.lines.specs.LineRule.{width}
 use Rattle.lines.specs.declared.records.LineBreak.{LineBreak}
-use Rattle.lines.proofs.BreakLaws.{line_none, few, every_list}
+use Rattle.lines.proofs.BreakLaws.{line_none, few}
 use Rattle.lines.proofs.Finding.{line_all, two}
 use Rattle.payloads.proofs.Passing.{rising, lowered_le}
 use Rattle.payloads.proofs.Stepping.{plain_line, line_at_end, ends_start, pair_line}

@@ -1,26 +1,24 @@
 -- Every window lies in its text and ends outside every break, so the law holds of every reading. Assumes nothing.
-use Rattle.std.proofs.Common.{◌≡◌, ℕ, zero, suc, ◌+◌, ◌-◌, ◌<◌, ◌≤◌, min, Bool, true, false, cond, ◌&&◌, ◌||◌, eqb, ltb, leb, ◌⊎◌, List, [], ◌∷◌, length, get_or, take, drop, Some, None, Option, unwrap_or, sym, refl, ap, ◌∙◌, subst, ⊎_elim, arith}
+use Rattle.std.proofs.Common.{◌≡◌, ℕ, zero, suc, ◌+◌, ◌-◌, ◌<◌, ◌≤◌, min, true, false, cond, leb, List, length, take, drop, Some, None, Option, unwrap_or, sym, refl, ap, ◌∙◌, subst, ⊎_elim, arith}
 use Rattle.std.proofs.lemmas.List.{drop-drop, drop-take, length-drop, length-take, take-take}
 use Rattle.std.proofs.lemmas.Bool.{cases_Bool, cases_eq}
 use Rattle.std.proofs.lemmas.Bool.Decides.{nat_tests, leb_tells}
 use Rattle.std.specs.Option.{option_map, option_flatten}
-use Rattle.lines.specs.Breaks.{breaks, break_ending, past, line_start_lem, line_of, lowered, column_of, place_of, place}
+use Rattle.lines.specs.Breaks.{breaks, break_ending, line_start_lem, line_of, lowered, column_of, place_of, place}
 use Rattle.lines.specs.LineRule.{width}
 use Rattle.lines.specs.Payloads.{Payload, payload, look_up}
 use Rattle.lines.specs.Spans.{span_of}
-use Rattle.lines.specs.Windows.{has_none, window_line, window_start, cut_after_lem, end_after, window_end_lem, window_at, window_of_lem, window}
+use Rattle.lines.specs.Windows.{has_none, window_line, window_start, cut_after_lem, window_end_lem, window_at}
 use Rattle.lines.specs.declared.records.Context.{Context}
-use Rattle.lines.specs.declared.records.LineBreak.{LineBreak}
-use Rattle.lines.specs.declared.records.Place.{Place}
 use Rattle.lines.specs.declared.records.SourceSpan.{SourceSpan}
 use Rattle.lines.specs.declared.records.Window.{Window}
-use Rattle.lines.proofs.BreakLaws.{Lies, lies, start_of, every_list}
+use Rattle.lines.proofs.BreakLaws.{lies, start_of, every_list}
 use Rattle.lines.proofs.Finding.{lowered_not}
 use Rattle.lines.proofs.WidthRule.{width_rule}
-use Rattle.payloads.specs.Law.{bare, start_place, Within, Agrees, Holds}
+use Rattle.payloads.specs.Law.{bare, start_place, Agrees, Holds}
 use Rattle.payloads.specs.Readings.{reading}
 use Rattle.payloads.proofs.Agreement.{looks_up_lem}
-use Rattle.payloads.proofs.Ends.{cut_more, cut_same, end_trailing, line_min, open_start, open_line, open_upto}
+use Rattle.payloads.proofs.Ends.{cut_more, cut_same, end_trailing, open_start, open_line, open_upto}
 use Rattle.payloads.proofs.Passing.{rising, lowered_le}
 use Rattle.payloads.proofs.Stepping.{after_pair, from_start}
 

@@ -1,4 +1,4 @@
-use Rattle.std.proofs.Common.{◌≡◌, length, Some, sym, ap, ◌∙◌, arith}
+use Rattle.std.proofs.Common.{◌≡◌, length, Some, ap, ◌∙◌, arith}
 use Rattle.lines.specs.Breaks.{seen}
 use Rattle.lines.specs.Spans.{span_of}
 use Rattle.lines.proofs.Finding.{few_seen}

@@ -1,4 +1,4 @@
-use Rattle.std.proofs.Common.{◌≡◌, take, vec_items, sym, ap, ◌∙◌}
+use Rattle.std.proofs.Common.{vec_items, sym, ap, ◌∙◌}
 use Rattle.answer_runs.proofs.Buffers.{take_min}
 use Rattle.answer_pages.specs.Slots.{taken_over}
 use Rattle.answer_pages.proofs.Gathering.{extended}

@@ -1,4 +1,4 @@
-use Rattle.std.proofs.Common.{◌≡◌, ◌-◌, [], ◌∷◌, ◌++◌, map, take, drop, Some, vec_items, sym, ap, ◌∙◌}
+use Rattle.std.proofs.Common.{◌-◌, [], ◌∷◌, ◌++◌, map, take, drop, Some, vec_items, ap, ◌∙◌}
 use Rattle.std.proofs.lemmas.List.{map_push}
 use Rattle.answer_pages.specs.Slots.{slot, asked_by}
 use Rattle.answer_pages.proofs.page.push_call.Goals as goal

@@ -1,4 +1,4 @@
-use Rattle.std.proofs.Common.{◌≡◌, length, take, drop, replicate, vec_items, sym, ap, ◌∙◌, arith}
+use Rattle.std.proofs.Common.{replicate, vec_items, arith}
 use Rattle.answers.specs.Written.{fault_text}
 use Rattle.answer_pages.proofs.Gathering.{extended, written}
 use Rattle.answer_pages.proofs.Lengths.{fault_short}

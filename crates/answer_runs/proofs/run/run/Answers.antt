@@ -1,10 +1,9 @@
-use Rattle.std.proofs.Common.{◌≡◌, get_or, take, drop, sym, refl, ap, ◌∙◌, subst, arith}
+use Rattle.std.proofs.Common.{◌≡◌, get_or, take, drop, ap, ◌∙◌, subst, arith}
 use Rattle.answer_runs.specs.Reference.{reference, handed_in, page_after, tells, page_left, Went}
 use Rattle.answer_runs.specs.declared.calls.Call.{Call}
 use Rattle.answer_runs.specs.declared.calls.Call.TheVariants.{Read}
 use Rattle.answer_runs.proofs.Lawfully.{lawful}
-use Rattle.answer_runs.proofs.Served.{Served, served_none, served_more}
-use Rattle.answer_runs.proofs.run.run.Given as given
+use Rattle.answer_runs.proofs.Served.{served_more}
 use Rattle.answer_runs.proofs.run.run.Goals as goal
 
 -- what stands at a place past the end, as the check reads it

@@ -1,10 +1,9 @@
-use Rattle.std.proofs.Common.{◌≡◌, map, get_or, take, drop, sym, refl, ap, ◌∙◌, subst, arith}
+use Rattle.std.proofs.Common.{◌≡◌, map, get_or, take, drop, ap, ◌∙◌, subst, arith}
 use Rattle.call_runs.specs.Reference.{reference, Went}
 use Rattle.call_runs.specs.declared.calls.Call.{Call}
 use Rattle.call_runs.specs.declared.calls.Call.TheVariants.{Read}
 use Rattle.call_runs.proofs.Lawfully.{lawful}
-use Rattle.call_runs.proofs.Served.{Served, served_none, served_more}
-use Rattle.call_runs.proofs.run.run.Given as given
+use Rattle.call_runs.proofs.Served.{served_more}
 use Rattle.call_runs.proofs.run.run.Goals as goal
 
 -- what stands at a place past the end, as the check reads it

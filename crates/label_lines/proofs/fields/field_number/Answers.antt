@@ -1,4 +1,4 @@
-use Rattle.std.proofs.Common.{◌≤◌, length, Ok, sym, ap, ◌∙◌, inl, inr, arith}
+use Rattle.std.proofs.Common.{Ok, sym, ap, ◌∙◌, inl, inr, arith}
 use Rattle.label_lines.proofs.Numbers.{taken_more, taken_over_lem, stops_here, all_digits, value_is, too_large, no_digit, too_long, too_great, in_range_lem}
 use Rattle.label_lines.proofs.fields.field_number.Goals as goal
 use Rattle.label_lines.proofs.fields.field_number.Goals.{then-value-le-LARGEST, else-value-le-LARGEST}

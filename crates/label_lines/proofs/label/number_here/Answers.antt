@@ -1,4 +1,4 @@
-use Rattle.std.proofs.Common.{◌≡◌, sym, refl, ap, ◌∙◌, arith}
+use Rattle.std.proofs.Common.{◌∙◌, arith}
 use Rattle.std.proofs.lemmas.Result.{err_from_is_err_and}
 use Rattle.label_lines.proofs.Splitting.{number_told, field_fits, past_here, none_due}
 use Rattle.label_lines.proofs.label.number_here.Goals as goal

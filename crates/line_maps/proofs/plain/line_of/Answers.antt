@@ -1,4 +1,4 @@
-use Rattle.std.proofs.Common.{◌≡◌, sym, ap, ◌∙◌, arith}
+use Rattle.std.proofs.Common.{◌∙◌, arith}
 use Rattle.lines.proofs.Finding.{seen_whole}
 use Rattle.line_maps.proofs.Counting.{counted_first, counted_more, moves, few_lines, ends_before, ends_later, all_lines}
 use Rattle.line_maps.proofs.plain.line_of.Goals as goal

@@ -1,7 +1,7 @@
-use Rattle.std.proofs.Common.{◌≡◌, sym, ap, ◌∙◌, arith}
+use Rattle.std.proofs.Common.{sym, ap, ◌∙◌, arith}
 use Rattle.lines.specs.Breaks.{breaks, break_ending}
 use Rattle.lines.proofs.Finding.{seen_whole}
-use Rattle.line_maps.proofs.Counting.{counted_first, counted_more, moves, few_lines, is_break, no_break, none_after}
+use Rattle.line_maps.proofs.Counting.{counted_first, counted_more, moves, is_break, no_break, none_after}
 use Rattle.line_maps.proofs.plain.nth_break.Goals as goal
 
 pub loop-found-init : goal.loop-found-init

@@ -1,4 +1,4 @@
-use Rattle.std.proofs.Common.{◌≡◌, ◌+◌, ◌-◌, min, max, length, Some, sym, refl, ap, ◌∙◌, subst, arith}
+use Rattle.std.proofs.Common.{◌≡◌, ◌+◌, min, max, length, Some, sym, refl, ap, ◌∙◌, subst, arith}
 use Rattle.lines.specs.Breaks.{breaks, break_ending, line_of, past}
 use Rattle.lines.specs.Windows.{window_end_lem}
 use Rattle.payloads.proofs.Whole.{ended}

@@ -1,4 +1,4 @@
-use Rattle.std.proofs.Common.{◌≡◌, ◌+◌, ◌≤◌, min, length, sym, ap, ◌∙◌, subst, arith}
+use Rattle.std.proofs.Common.{◌≡◌, ◌+◌, ◌≤◌, length, sym, ap, ◌∙◌, subst, arith}
 use Rattle.lines.specs.Breaks.{breaks, break_ending, line_of, column_of}
 use Rattle.lines.specs.Windows.{window_line, window_start, window_end_lem}
 use Rattle.line_maps.proofs.WindowRead.{line_kept, line_told, line_below, start_end, window_is}

@@ -1,8 +1,8 @@
-use Rattle.std.proofs.Common.{◌≡◌, ◌≤◌, ◌++◌, length, Some, None, string_bytes, sym, refl, ap, ◌∙◌, subst, arith}
+use Rattle.std.proofs.Common.{◌≡◌, ◌≤◌, ◌++◌, length, Some, None, string_bytes, sym, ap, ◌∙◌, subst, arith}
 use Rattle.lines.specs.Breaks.{breaks, next_break_lem}
 use Rattle.lines.proofs.Finding.{few_seen}
 use Rattle.listing.specs.Table.{table_text}
-use Rattle.listing.proofs.Listed.{Going, Small, small, going_first, at_within, from, within, past_start, number, going_more, last_number, going_all}
+use Rattle.listing.proofs.Listed.{Going, small, going_first, at_within, from, within, past_start, number, going_more, last_number, going_all}
 use Rattle.listing.proofs.table.line_table.Goals as goal
 use Rattle.listing.proofs.table.line_table.Goals.{In-Some, In_default}
 

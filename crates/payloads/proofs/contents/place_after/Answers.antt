@@ -1,6 +1,6 @@
-use Rattle.std.proofs.Common.{◌≡◌, ◌+◌, ◌-◌, ◌≤◌, min, length, take, sym, refl, ap, ◌∙◌, subst, arith}
-use Rattle.std.proofs.lemmas.List.{length-take, take_all}
-use Rattle.lines.specs.Breaks.{breaks, next_break_lem, past, seen}
+use Rattle.std.proofs.Common.{◌≡◌, ◌+◌, ◌-◌, ◌≤◌, length, take, sym, ap, ◌∙◌, subst, arith}
+use Rattle.std.proofs.lemmas.List.{length-take}
+use Rattle.lines.specs.Breaks.{breaks, past}
 use Rattle.lines.specs.Payloads.{column_after}
 use Rattle.lines.proofs.Finding.{seen_whole, next_moves}
 use Rattle.payloads.proofs.Passing.{Passing, passing_first, passing_more, passing_few, passing_all, take_min}

@@ -1,4 +1,4 @@
-use Rattle.std.proofs.Common.{◌≡◌, ℕ, ◌+◌, ◌≤◌, List, length, IfSome, Some, None, Option, refl, ap, ◌∙◌, MatchOption}
+use Rattle.std.proofs.Common.{◌≡◌, ℕ, ◌+◌, ◌≤◌, List, length, IfSome, Some, None, Option, ap, ◌∙◌, MatchOption}
 use Rattle.std.specs.Option.{option_map}
 use Rattle.lines.specs.Breaks.{seen}
 use Rattle.lines.specs.declared.records.Context.{Context}

@@ -1,4 +1,4 @@
-use Rattle.std.proofs.Common.{◌≡◌, ◌-◌, sym, ap, ◌∙◌, arith}
+use Rattle.std.proofs.Common.{◌≡◌, ◌-◌, ap, ◌∙◌, arith}
 use Rattle.lines.specs.Breaks.{breaks, line_of}
 use Rattle.lines.specs.Windows.{window_line}
 use Rattle.payloads.proofs.Ends.{line_min, open_start, open_column, open_upto}

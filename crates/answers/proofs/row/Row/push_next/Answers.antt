@@ -1,4 +1,4 @@
-use Rattle.std.proofs.Common.{List, [], ◌∷◌, ◌++◌, decimal, ap, ◌∙◌, append_assoc, arith}
+use Rattle.std.proofs.Common.{[], ◌∷◌, ◌++◌, decimal, ap, ◌∙◌, append_assoc, arith}
 use Rattle.answers.specs.Rows.{row_text}
 use Rattle.answers.proofs.row.Row.push_next.Goals as goal
 

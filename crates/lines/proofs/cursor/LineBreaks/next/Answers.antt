@@ -1,4 +1,4 @@
-use Rattle.std.proofs.Common.{sym, refl, ◌∙◌, arith}
+use Rattle.std.proofs.Common.{refl, arith}
 use Rattle.lines.proofs.Finding.{told_whole_lem, ends_within, over}
 use Rattle.lines.proofs.cursor.LineBreaks.next.Goals as goal
 

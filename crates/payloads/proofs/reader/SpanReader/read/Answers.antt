@@ -1,4 +1,4 @@
-use Rattle.std.proofs.Common.{◌≡◌, sym, ap, ◌∙◌}
+use Rattle.std.proofs.Common.{sym, ap, ◌∙◌}
 use Rattle.std.specs.Option.{option_map, option_flatten}
 use Rattle.lines.specs.Payloads.{payload}
 use Rattle.lines.proofs.Finding.{seen_whole}

@@ -1,4 +1,4 @@
-use Rattle.std.proofs.Common.{◌≡◌, ℕ, ◌+◌, length, unwrap_or, sym, refl, ap, ◌∙◌, subst, arith}
+use Rattle.std.proofs.Common.{length, unwrap_or, sym, refl, ap, ◌∙◌, subst, arith}
 use Rattle.lines.specs.Breaks.{breaks, line_start_lem}
 use Rattle.payloads.proofs.Walking.{Nearing, nearing_first, nearing_more, nearing_done}
 use Rattle.payloads.proofs.walk.Walk.to_line.Goals as goal
