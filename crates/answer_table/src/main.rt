@@ -6,13 +6,16 @@ mod rows;
 
 use rows::Table;
 use std::io::{BufRead, BufReader};
+use std::process::ExitCode;
 
-fn main(rt: HostRuntime) -> anyhow::Result<()> {
-    let printed = print_table(&rt);
-    if let Err(error) = &printed {
-        eprintln!(rt; "answer_table: {error}")?;
+fn main(rt: HostRuntime) -> ExitCode {
+    match print_table(&rt) {
+        Ok(()) => ExitCode::SUCCESS,
+        Err(error) => {
+            let _ = eprintln!(rt; "answer_table: {error}");
+            ExitCode::FAILURE
+        }
     }
-    printed
 }
 
 // Prints a line for each row that asks something; the first malformed row ends it.

@@ -7,13 +7,16 @@ use anyhow::anyhow;
 use inputs::{fill, fill_from_file};
 use line_maps::plain::PlainScan;
 use std::io::Write;
+use std::process::ExitCode;
 
-fn main(rt: HostRuntime) -> anyhow::Result<()> {
-    let answered = answer_labels(&rt);
-    if let Err(error) = &answered {
-        eprintln!(rt; "labels: {error}")?;
+fn main(rt: HostRuntime) -> ExitCode {
+    match answer_labels(&rt) {
+        Ok(()) => ExitCode::SUCCESS,
+        Err(error) => {
+            let _ = eprintln!(rt; "labels: {error}");
+            ExitCode::FAILURE
+        }
     }
-    answered
 }
 
 // Prints the answers to the first 16,384 bytes of labels over the first 65,536 of the source; where either is longer,

@@ -4,13 +4,16 @@
 use anyhow::anyhow;
 use inputs::fill_from_file;
 use listing::table::line_table;
+use std::process::ExitCode;
 
-fn main(rt: HostRuntime) -> anyhow::Result<()> {
-    let listed = list(&rt);
-    if let Err(error) = &listed {
-        eprintln!(rt; "line_table: {error}")?;
+fn main(rt: HostRuntime) -> ExitCode {
+    match list(&rt) {
+        Ok(()) => ExitCode::SUCCESS,
+        Err(error) => {
+            let _ = eprintln!(rt; "line_table: {error}");
+            ExitCode::FAILURE
+        }
     }
-    listed
 }
 
 // Prints the table of the first 65,536 bytes; a longer source is an error, told once they are listed.

@@ -8,13 +8,16 @@ mod tally;
 use answers::Answers;
 use anyhow::anyhow;
 use std::io::{BufRead, BufReader};
+use std::process::ExitCode;
 
-fn main(rt: HostRuntime) -> anyhow::Result<()> {
-    let replayed = replay(&rt);
-    if let Err(error) = &replayed {
-        eprintln!(rt; "replay: {error}")?;
+fn main(rt: HostRuntime) -> ExitCode {
+    match replay(&rt) {
+        Ok(()) => ExitCode::SUCCESS,
+        Err(error) => {
+            let _ = eprintln!(rt; "replay: {error}");
+            ExitCode::FAILURE
+        }
     }
-    replayed
 }
 
 fn replay(rt: &HostRuntime) -> anyhow::Result<()> {
