@@ -10,6 +10,7 @@ mod tests {
     use line_maps::plain::PlainScan;
     use lines::records::{Context, Fault, Place, SourceSpan, Window};
     use map_tests::forgetful::Forgetful;
+    use std::alloc::Global;
     use std::process::Abort;
     use std::test::*;
 
@@ -127,10 +128,10 @@ mod tests {
     }
 
     // The page of the worked labels, whose lines end in all three ways; the empty last one is no label.
-    fn prints<M: LineMap>(rt: HostRuntime, map: &mut M) -> Result<(), Fail> {
+    fn prints<M: LineMap>(rt: &impl Abort, heap: Global, map: &mut M) -> Result<(), Fail> {
         let labels = b"8,1,1,1\n8,1,0,1\r\n13,0,0,0\r8,,0,0\n8,1,0\n";
-        let page = answer_page(rt.alloc(), map, labels)?;
-        assert_eq!(
+        let page = answer_page(heap, map, labels)?;
+        assert_eq!(rt;
             page.as_slice(),
             b"4,8,1,0,3\n8,4,2,1,3\nfault,5,3,0,0\nfault,1,1,2,2\nfault,4,2,4,5\n".as_slice()
         );
@@ -140,13 +141,13 @@ mod tests {
     #[test]
     fn worked_page(rt: HostRuntime) -> Result<(), Fail> {
         let mut map = PlainScan::new(SCALE);
-        prints(rt, &mut map)
+        prints(&rt, rt.alloc(), &mut map)
     }
 
     #[test]
     fn worked_page_of_a_forgetful_map(rt: HostRuntime) -> Result<(), Fail> {
         let mut map = Forgetful::new(PlainScan::new(SCALE));
-        prints(rt, &mut map)
+        prints(&rt, rt.alloc(), &mut map)
     }
 
     // Only as many calls are run as there are places for what they tell.

@@ -2,7 +2,7 @@
 ghost use Rattle.std.specs.Prelude.{◌≡◌, ◌+◌, ◌≤◌, min, length, IfSome, MatchOption};
 ghost use Rattle.std.specs.Option.{option_map, unwrap_or};
 ghost use Rattle.lines.specs.Breaks.{seen, breaks, line_start_lem, line_of, column_of};
-ghost use Rattle.lines.specs.Windows.{window as the-window, window_line, window_start, window_end_lem, cut_after_lem};
+ghost use Rattle.lines.specs.Windows.{window as the_window, window_line, window_start, window_end_lem, cut_after_lem};
 ghost use Rattle.payloads.specs.Contents.{shown};
 ghost use Rattle.payloads.specs.Law.{Agrees, Holds};
 ghost use Rattle.payloads.specs.Readings.{reading};
@@ -63,7 +63,7 @@ pub fn fresh_reading<'a>(
 // The window of a span and its context.
 fn window_of(text: &[u8], span: SourceSpan, context: Context) -> Option<Window>
     requires { length text.now ≤ 4294967295 }
-    ensures { result ≡ the-window text.now span context }
+    ensures { result ≡ the_window text.now span context }
 {
     let length = text.len() as u64;
     let offset = span.offset();
