@@ -1,4 +1,4 @@
-// Readings and look-ups over a C boundary, for programs in other languages that compare or measure.
+// Readings and look-ups as flags and rows of numbers, for programs in other languages that compare or measure.
 #![tactic(auto)]
 
 ghost use Rattle.std.specs.Prelude.{◌≡◌};
@@ -12,8 +12,7 @@ use payloads::reader::fresh_reading;
 
 // Reads a span: 1 and the payload's start, length, line, column, line_count, data length and data hash in the first
 // seven numbers of `out`; 0, with `out` as it came, where there is none or `out` is shorter.
-#[unsafe(no_mangle)]
-pub extern "C" fn port_read(
+pub fn port_read(
     source: &[u8],
     offset: u32,
     length: u32,
@@ -50,8 +49,7 @@ pub extern "C" fn port_read(
 
 // Reads a span and looks an offset up in its payload: 0 where there is no payload or `out` is shorter than two, 1 where
 // the look-up answers none, and 2 with line and column in the first two numbers of `out`; else `out` is as it came.
-#[unsafe(no_mangle)]
-pub extern "C" fn port_look_up(
+pub fn port_look_up(
     source: &[u8],
     offset: u32,
     length: u32,
