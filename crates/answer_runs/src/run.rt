@@ -62,6 +62,6 @@ fn answer_into<M: LineMap>(
     let end = start + part.length.min(page.len() - start);
     match answer(map, line, &mut page[start..end]) {
         Ok(count) => Ok(count),
-        Err(fault) => Err(fault.numbers()),
+        Err(fault) => Err(Fault::from(fault)),
     }
 }

@@ -19,7 +19,7 @@ returns-in-Err g c =
     let line = line_for (g.M.LineMap.text c.args.map.now) c.args.line.now in
     let part = lent c.args.page.now c.args.part c.min-start.result c.min.result c.min-start.ensures c.min.ensures in
     record {
-      told = ap Err c.numbers.ensures ∙ c.in-Err.ensures.told ∙ ap (λ out. answered out line) part;
+      told = ap Err c.from.ensures ∙ c.in-Err.ensures.told ∙ ap (λ out. answered out line) part;
       page = given_back c.args.page.now c.args.part c.min-start.result c.min.result c.min-start.ensures c.min.ensures _ _ (c.answer.ensures.out ∙ ap (λ out. buffer_after out line) part);
       kept = c.answer.ensures.kept;
       onward = c.answer.ensures.onward;
