@@ -35,9 +35,16 @@ few : (c : In-Some) → vec_len c.loop-found.calls + 1 ≤ length c.seen_bytes-t
 few c = few_lines c.loop-found.invariant.0 c.in-Some.found c.in-Some.ensures.told
 
 pub push_call-requires : goal.push_call-requires
-push_call-requires c =
-    let at = (goal.at.push_call-requires c).In-Some in
-    record { few = omega (arith, few at, short c.args.input.now _ c.seen_bytes-text.ensures); start = starts at; end = omega (arith, ends at) }
+push_call-requires c = omega (arith, few (goal.at.push_call-requires c).In-Some, short c.args.input.now _ c.seen_bytes-text.ensures)
+
+pub slice_bounds-push_call-count : goal.slice_bounds-push_call-count
+slice_bounds-push_call-count c = starts (goal.at.slice_bounds-push_call-count c).In-Some
+
+pub slice_bounds-push_call-start : goal.slice_bounds-push_call-start
+slice_bounds-push_call-start c = starts (goal.at.slice_bounds-push_call-start c).In-Some
+
+pub slice_bounds-push_call-end : goal.slice_bounds-push_call-end
+slice_bounds-push_call-end c = omega (arith, ends (goal.at.slice_bounds-push_call-end c).In-Some)
 
 pub loop-found-smaller : goal.loop-found-smaller
 loop-found-smaller c =
@@ -57,11 +64,7 @@ loop-found-preserved c =
 
 -- at the end
 pub push_call-requires-then-start-text : goal.push_call-requires-then-start-text
-push_call-requires-then-start-text c = record {
-  few = omega (arith, lines_fit c.loop-found.invariant.0, short c.args.input.now _ c.seen_bytes-text.ensures);
-  start = omega (arith, c.if-start-text.true);
-  end = omega arith;
-}
+push_call-requires-then-start-text c = omega (arith, lines_fit c.loop-found.invariant.0, short c.args.input.now _ c.seen_bytes-text.ensures)
 
 pub returns : goal.returns
 returns c =
