@@ -23,6 +23,7 @@ pub fn run<M: LineMap>(map: &mut M, page: &mut [u8], calls: &[Call], told: &mut 
     ensures went { Went (take result calls.now) (M.frontier map.old) (M.frontier map.new) }
 {
     let count = calls.len().min(told.len());
+    // By index: after a loop over `told.iter_mut()` zipped with the calls, no proof knows what stands in the places.
     for (i, call) in calls[..count].iter().enumerate() {
         told[i] = serve(map, page, *call);
     }
