@@ -1,5 +1,5 @@
 -- What the reference tells keeps the law of runs. Assumes nothing.
-use Rattle.std.proofs.Common.{◌≡◌, ℕ, zero, suc, ◌+◌, ◌≤◌, true, false, cond, List, [], ◌∷◌, map, length, take, Some, None, Option, sym, refl, ap, ◌∙◌, ⊎_elim, arith}
+use Rattle.std.proofs.Common.{◌≡◌, ℕ, zero, suc, ◌+◌, ◌≤◌, true, false, cond, List, [], ◌∷◌, map, length, take, Some, None, Option, sym, refl, ap, ◌∙◌, ⊎_elim}
 use Rattle.std.proofs.lemmas.Bool.{cases_Bool}
 use Rattle.std.proofs.lemmas.List.Elements.{All-head, All-tail}
 use Rattle.std.specs.List.{All, slice_get}
@@ -50,14 +50,6 @@ tells_alone t page (c ∷ cs) none =
     ap (λ x. x ∷ tells t (page_after t page c) cs) (told_alone t page c (All-head HasNoBuffer c cs none))
     ∙ ap (λ l. reference t [] c ∷ l) (tells_alone t (page_after t page c) cs (All-tail HasNoBuffer c cs none))
 
--- where a fresh reading is none, there is no window
-no_window : (t : List ℕ) (span : SourceSpan) (context : Context) → reading t span context ≡ None → window t span context ≡ None
-no_window t span context none = ⊎_elim
-    (λ (lacks : has_none (length t) span.offset span.length context.before ≡ true). ap (λ no_one. cond no_one None (Some (the_window t span context))) lacks)
-    (λ (some : has_none (length t) span.offset span.length context.before ≡ false).
-    let f = sym (reading_is t span context some) ∙ none in let z : ◌≡◌ {A = ℕ} 0 1 = cc in absurd (omega arith))
-    (cases_Bool (has_none (length t) span.offset span.length context.before))
-
 -- a fresh reading has the numbers of the window, and none where there is none
 read_numbers : (t : List ℕ) (span : SourceSpan) (context : Context) → option_map numbers_of (reading t span context) ≡ window t span context
 read_numbers t span context = ⊎_elim
@@ -67,6 +59,10 @@ read_numbers t span context = ⊎_elim
     (λ (some : has_none (length t) span.offset span.length context.before ≡ false).
     ap (option_map numbers_of) (reading_is t span context some) ∙ sym (ap (λ no_one. cond no_one None (Some (the_window t span context))) some))
     (cases_Bool (has_none (length t) span.offset span.length context.before))
+
+-- where a fresh reading is none, there is no window
+no_window : (t : List ℕ) (span : SourceSpan) (context : Context) → reading t span context ≡ None → window t span context ≡ None
+no_window t span context none = sym (read_numbers t span context) ∙ ap (option_map numbers_of) none
 
 module _ (t page left : List ℕ) (calls : List Call) (told : List Told) (each : told ≡ tells t page calls) (buffers : left ≡ page_left t page calls) where
   told_at : (i : ℕ) (c : Call) → slice_get calls i ≡ Some c → slice_get told i ≡ Some (reference t (handed_in (page_left t page (take i calls)) c) c)

@@ -1,6 +1,7 @@
 -- The first i calls of a run are served. Assumes nothing.
-use Rattle.std.proofs.Common.{◌≡◌, ℕ, ◌+◌, ◌<◌, ◌≤◌, List, [], ◌∷◌, ◌++◌, length, take, drop, set, sym, refl, ap, ◌∙◌, subst, append_assoc, append-nil, arith}
-use Rattle.std.proofs.lemmas.List.{take_more_set, drop_all, drop-set-lt, drop-drop}
+use Rattle.std.proofs.Common.{◌≡◌, ℕ, ◌+◌, ◌<◌, ◌≤◌, List, [], ◌∷◌, ◌++◌, length, take, drop, set, sym, ap, ◌∙◌, subst, append_assoc, append-nil, arith}
+use Rattle.std.proofs.lemmas.List.{take_more_set, drop_all, drop-set-lt}
+use Rattle.std.proofs.lemmas.Grind.{drop_more_same}
 use Rattle.call_runs.specs.Reference.{reference, handed_in, page_after, tells, page_left, Moved, Went}
 use Rattle.call_runs.specs.declared.calls.Call.{Call}
 use Rattle.call_runs.specs.declared.calls.Told.{Told}
@@ -15,20 +16,18 @@ pub record Served (t before page : List ℕ) (calls : List Call) (old told : Lis
 
 module _ {t before page : List ℕ} {calls : List Call} {old told : List Told} {was is i : ℕ} (s : Served t before page calls old told was is i) where
   pub served_more : (c : Call) → drop i calls ≡ c ∷ drop (i + 1) calls → i < length told → (u : List ℕ) → u ≡ t → (x : Told) (next : List ℕ) (f : ℕ) → x ≡ reference u (handed_in page c) c → next ≡ page_after u page c → Moved c is f → Served t before next calls old (set told i x) was f (i + 1)
-  served_more c here within u same x next f told_is next_is moved =
-      let next_one : next ≡ page_after t page c = next_is ∙ ap (λ u. page_after u page c) same in
-      record {
-        done =
-            ap (λ l. l ++ tells t next (drop (i + 1) calls)) (take_more_set told i x within)
-            ∙ append_assoc (take i told) (x ∷ []) (tells t next (drop (i + 1) calls))
-            ∙ ap (λ y. take i told ++ (y ∷ tells t next (drop (i + 1) calls))) (told_is ∙ ap (λ u. reference u (handed_in page c) c) same)
-            ∙ ap (λ p. take i told ++ (reference t (handed_in page c) c ∷ tells t p (drop (i + 1) calls))) next_one
-            ∙ sym (ap (λ cs. take i told ++ tells t page cs) here)
-            ∙ s.done;
-        left = ap (λ p. page_left t p (drop (i + 1) calls)) next_one ∙ sym (ap (page_left t page) here) ∙ s.left;
-        rest = drop-set-lt (i + 1) told i x (omega arith) ∙ sym (drop-drop 1 i told) ∙ ap (drop 1) s.rest ∙ drop-drop 1 i old;
-        way = λ g on. s.way g (subst (λ cs. Went cs is g) (sym here) (f, moved, on));
-      }
+  served_more c here within u same x next f told_is next_is moved = record {
+    done =
+        let front = take_more_set told i x within in
+        let apart = append_assoc (take i told) (x ∷ []) (tells t next (drop (i + 1) calls)) in
+        let others : tells t page (drop i calls) ≡ reference t (handed_in page c) c ∷ tells t (page_after t page c) (drop (i + 1) calls) = ap (tells t page) here in
+        (cc s.done);
+    left =
+        let others : page_left t page (drop i calls) ≡ page_left t (page_after t page c) (drop (i + 1) calls) = ap (page_left t page) here in
+        (cc s.left);
+    rest = drop-set-lt (i + 1) told i x (omega arith) ∙ drop_more_same told old i s.rest;
+    way = λ g on. s.way g (subst (λ cs. Went cs is g) (sym here) (f, moved, on));
+  }
 
   module _ (all : length calls ≤ i) where
     pub all_told : take i told ≡ tells t before calls
@@ -36,6 +35,3 @@ module _ {t before page : List ℕ} {calls : List Call} {old told : List Told} {
 
     pub all_left : page ≡ page_left t before calls
     all_left = sym (ap (page_left t page) (drop_all i calls all)) ∙ s.left
-
-    pub all_way : Went calls was is
-    all_way = s.way is (subst (λ cs. Went cs is is) (sym (drop_all i calls all)) refl)
