@@ -123,7 +123,7 @@ impl Answers {
 fn ask(source: &[u8], call: Call) -> Told {
     let mut map = PlainScan::new(source);
     let mut told = [Told::Nothing; 1];
-    let _ = run(&mut map, &[call], &mut told);
+    let _ = run(&mut map, &mut [], &[call], &mut told);
     told[0]
 }
 

@@ -1,7 +1,7 @@
 use Rattle.std.proofs.Common.{◌≤◌, length, ap, ◌∙◌, subst, arith}
 use Rattle.std.proofs.lemmas.List.{take_all}
 use Rattle.std.proofs.lemmas.Result.{IfOk-weaker}
-use Rattle.answer_runs.specs.Reference.{page_left, Went}
+use Rattle.call_runs.specs.Reference.{page_left, Went}
 use Rattle.answer_pages.specs.Slots.{gathered}
 use Rattle.answer_pages.proofs.Slotting.{each_told, each_left}
 use Rattle.answer_pages.proofs.page.answer_calls.Goals as goal
