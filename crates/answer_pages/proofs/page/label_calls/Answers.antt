@@ -35,7 +35,7 @@ few : (c : In-Some) → vec_len c.loop-found.calls + 1 ≤ length c.seen_bytes-t
 few c = few_lines c.loop-found.invariant.0 c.in-Some.found c.in-Some.ensures.steps.told
 
 pub push_call-requires : goal.push_call-requires
-push_call-requires c = omega (arith, few (goal.at.push_call-requires c).In-Some, short c.args.input.slice.now _ c.seen_bytes-text.ensures)
+push_call-requires c = omega (arith, few (goal.at.push_call-requires c).In-Some, short c.args.input.now _ c.seen_bytes-text.ensures)
 
 pub slice_bounds-push_call-count : goal.slice_bounds-push_call-count
 slice_bounds-push_call-count c = starts (goal.at.slice_bounds-push_call-count c).In-Some
@@ -64,12 +64,12 @@ loop-found-preserved c =
 
 -- at the end
 pub push_call-requires-then-start-text : goal.push_call-requires-then-start-text
-push_call-requires-then-start-text c = omega (arith, lines_fit c.loop-found.invariant.0, short c.args.input.slice.now _ c.seen_bytes-text.ensures)
+push_call-requires-then-start-text c = omega (arith, lines_fit c.loop-found.invariant.0, short c.args.input.now _ c.seen_bytes-text.ensures)
 
 pub returns : goal.returns
 returns c =
     let t = c.seen_bytes-text.result.now in
-    let whole = short c.args.input.slice.now t c.seen_bytes-text.ensures in
+    let whole = short c.args.input.now t c.seen_bytes-text.ensures in
     let count = lines_fit c.loop-found.invariant.0 in
     let none = no_break c.loop-found.invariant.0 c.in_default.ensures.steps.told in
     let all = ap (λ t. slots_from 0 (labels_in t)) c.seen_bytes-text.ensures in
