@@ -47,6 +47,7 @@ pub fn serve<M: LineMap>(map: &mut M, page: &mut [u8], call: Call) -> Told
 }
 
 // The answer to a label line, with a part of the page as its output buffer.
+#[tactic(auto, using(crate::proofs::Buffers::lent, crate::proofs::Buffers::given_back))]
 fn answer_into<M: LineMap>(
     map: &mut M,
     line: &[u8],
@@ -60,8 +61,5 @@ fn answer_into<M: LineMap>(
 {
     let start = part.start.min(page.len());
     let end = start + part.length.min(page.len() - start);
-    match answer(map, line, &mut page[start..end]) {
-        Ok(count) => Ok(count),
-        Err(fault) => Err(fault.numbers()),
-    }
+    Ok(answer(map, line, &mut page[start..end])?)
 }
