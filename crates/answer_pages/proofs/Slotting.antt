@@ -146,7 +146,7 @@ module _ (t : List ℕ) where
         ∙ sym (ap (flat_map (λ line. printed (line_for t line))) f.lines_are)
 
 -- answers never lower the frontier
-pub never_lower : (calls : List Call) (k : ℕ) (lines : List (List ℕ)) (was is : ℕ) → map asked_by calls ≡ slots_from k lines → Went calls was is → was ≤ is
+never_lower : (calls : List Call) (k : ℕ) (lines : List (List ℕ)) (was is : ℕ) → map asked_by calls ≡ slots_from k lines → Went calls was is → was ≤ is
 never_lower [] k lines was is asked way = omega (arith, way)
 never_lower (call ∷ calls) k lines was is asked way =
     let f = first call calls k lines asked in
@@ -154,22 +154,22 @@ never_lower (call ∷ calls) k lines was is asked way =
     omega (arith, step, never_lower calls (k + 1) f.others way.0 is f.rest way.2)
 
 -- as many calls as lines
-pub as_many : (calls : List Call) (k : ℕ) (lines : List (List ℕ)) → map asked_by calls ≡ slots_from k lines → length lines ≡ length calls
+as_many : (calls : List Call) (k : ℕ) (lines : List (List ℕ)) → map asked_by calls ≡ slots_from k lines → length lines ≡ length calls
 as_many [] k [] is = refl
 as_many [] k (line ∷ lines) is = let z : ◌≡◌ {A = ℕ} 0 1 = cc in absurd (omega arith)
 as_many (call ∷ calls) k lines is =
     let f = first call calls k lines is in
     omega (arith, ap length f.lines_are, as_many calls (k + 1) f.others f.rest)
 
--- the whole page, out of one run
-pub page_of : (t slots before : List ℕ) (calls : List Call) (told : List Told) (lines : List (List ℕ)) → ((line text : List ℕ) → line_for t line ≡ Ok text → length text ≤ 55) → map asked_by calls ≡ slots_from 0 lines → length calls * 55 ≤ length before → told ≡ tells t before calls → slots ≡ page_left t before calls → gathered slots told ≡ flat_map (λ line. printed (line_for t line)) lines
-page_of t slots before calls told lines short is room told_is slots-are =
-    ap (λ l. gathered l told) slots-are ∙ ap (gathered (page_left t before calls)) told_is ∙ gathers t short before calls 0 lines is (omega (arith, room, as_many calls 0 lines is))
+-- a run with a place for what each call tells: the whole page comes of it, and the frontier is no lower
+module _ (t before after : List ℕ) (calls : List Call) (told : List Told) (r : ℕ) (lines : List (List ℕ)) (asked : map asked_by calls ≡ slots_from 0 lines) (all_calls : length calls ≤ r) where
+  pub page_of : ((line text : List ℕ) → line_for t line ≡ Ok text → length text ≤ 55) → length calls * 55 ≤ length before → length told ≤ r → Lawful t before after (take r calls) (take r told) → gathered after told ≡ flat_map (λ line. printed (line_for t line)) lines
+  page_of short room all_told law =
+      let each : told ≡ tells t before calls = sym (take_all r told all_told) ∙ law.each ∙ ap (tells t before) (take_all r calls all_calls) in
+      let left : after ≡ page_left t before calls = law.buffers ∙ ap (page_left t before) (take_all r calls all_calls) in
+      ap (λ l. gathered l told) left
+      ∙ ap (gathered (page_left t before calls)) each
+      ∙ gathers t short before calls 0 lines asked (omega (arith, room, as_many calls 0 lines asked))
 
--- a run with a place for what each call tells
-module _ (t before after : List ℕ) (calls : List Call) (told : List Told) (r : ℕ) (all-calls : length calls ≤ r) (all_told : length told ≤ r) (law : Lawful t before after (take r calls) (take r told)) where
-  pub each_told : told ≡ tells t before calls
-  each_told = sym (take_all r told all_told) ∙ law.each ∙ ap (tells t before) (take_all r calls all-calls)
-
-  pub each_left : after ≡ page_left t before calls
-  each_left = law.buffers ∙ ap (page_left t before) (take_all r calls all-calls)
+  pub onward_of : (was is : ℕ) → Went (take r calls) was is → was ≤ is
+  onward_of was is way = never_lower calls 0 lines was is asked (subst (λ cs. Went cs was is) (take_all r calls all_calls) way)

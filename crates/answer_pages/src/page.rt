@@ -1,8 +1,7 @@
 // The page of answers to the label lines of an input.
-ghost use Rattle.std.specs.Prelude.{◌≡◌, ◌+◌, ◌^◌, ◌<◌, ◌≤◌, [], ◌∷◌, ◌++◌, map, length, take, drop, IfOk, Some, vec_len, OnOk};
+ghost use Rattle.std.specs.Prelude.{◌≡◌, ◌+◌, ◌^◌, ◌<◌, ◌≤◌, [], ◌∷◌, ◌++◌, map, IfOk, Some, vec_len, OnOk};
 ghost use Rattle.lines.specs.Breaks.{seen};
 ghost use Rattle.answers.specs.Written.{fault_text};
-ghost use Rattle.call_runs.specs.Reference.{tells, page_left, Went};
 ghost use Rattle.answer_pages.specs.Pages.{labels_in, page_for};
 ghost use Rattle.answer_pages.specs.Slots.{slot, Asked, asked_by, slots_from, shown_by, gathered};
 
@@ -29,24 +28,8 @@ pub fn answer_page<M: LineMap>(
     let calls = label_calls(heap, input)?;
     let mut told = vec![in heap; Told::Nothing; calls.len()]?;
     let mut slots = vec![in heap; 0u8; calls.len() * LONGEST_LINE]?;
-    answer_calls(heap, map, &calls, &mut slots, &mut told)
-}
-
-// Runs the calls, with a place for what each tells, and gathers the page from the slots.
-fn answer_calls<M: LineMap>(
-    heap: Global,
-    map: &mut M,
-    calls: &[Call],
-    slots: &mut [u8],
-    told: &mut [Told],
-) -> Result<Vec<u8>, AllocError>
-    requires { length told.old ≡ length calls.now }
-    ensures page { IfOk result (λ page. page.items ≡ gathered (page_left (M.text map.old) slots.old calls.now) (tells (M.text map.old) slots.old calls.now)) }
-    ensures kept { M.text map.new ≡ M.text map.old }
-    ensures went { Went calls.now (M.frontier map.old) (M.frontier map.new) }
-{
-    let _ = run(map, slots, calls, told);
-    gather(heap, slots, told)
+    let _ = run(map, &mut slots, &calls, &mut told);
+    gather(heap, &slots, &told)
 }
 
 // A call for each label line of an input.
