@@ -1,4 +1,5 @@
 pub mod BreakLaws
+pub mod Blocks
 pub mod Finding
 pub mod Giving
 pub mod Lanes16

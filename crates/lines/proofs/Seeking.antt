@@ -1,7 +1,7 @@
 -- How the search for the next CR or LF moves on. Assumes nothing.
 use Rattle.std.proofs.Common.{◌≡◌, ℕ, zero, suc, ◌+◌, ◌<◌, ◌≤◌, min, true, false, not, List, [], ◌∷◌, length, get_or, take, drop, refl, ap, ◌∙◌, arith}
 use Rattle.std.specs.List.{prefix_len}
-use Rattle.std.proofs.lemmas.List.{drop-drop, length-drop}
+use Rattle.std.proofs.lemmas.List.{drop-drop, drop-take, length-drop, length-take}
 use Rattle.std.proofs.lemmas.List.Sums.{prefix_len-drop_yes, prefix_len-drop_no, prefix_len-drop_all, prefix_len-le-length}
 use Rattle.std.proofs.lemmas.Bool.Decides.{nat_tests}
 use Rattle.lines.specs.LineRule.{ends_line_lem}
@@ -29,16 +29,13 @@ passes_all t i (suc n) fits plain =
     ∙ passes_all t i n (omega arith) (λ k low high. plain k low (omega arith))
 
 -- in the first n bytes the search stops where it does in all, or after n
-leading_take : (xs : List ℕ) (n : ℕ) → prefix_len is_plain (take n xs) ≡ min (prefix_len is_plain xs) n
+pub leading_take : (xs : List ℕ) (n : ℕ) → prefix_len is_plain (take n xs) ≡ min (prefix_len is_plain xs) n
 leading_take [] zero = refl
 leading_take [] (suc n) = omega arith
 leading_take (x ∷ xs) zero = omega arith
 leading_take (x ∷ xs) (suc n) = let rest = leading_take xs n in grind (arith, nat_tests)
 
-pub in_front : (t : List ℕ) (i n r : ℕ) → i + n ≤ length t → r ≡ prefix_len is_plain (take n (drop i t)) → i + r ≡ min (next_ending_lem t i) (i + n)
-in_front t i n r fits is = omega (arith, is, leading_take (drop i t) n, prefix_len-le-length is_plain (drop i t), length-drop i t)
-
-leading_drop : (xs : List ℕ) (n : ℕ) → n ≤ prefix_len is_plain xs → n + prefix_len is_plain (drop n xs) ≡ prefix_len is_plain xs
+pub leading_drop : (xs : List ℕ) (n : ℕ) → n ≤ prefix_len is_plain xs → n + prefix_len is_plain (drop n xs) ≡ prefix_len is_plain xs
 leading_drop xs zero few = omega arith
 leading_drop [] (suc n) few = absurd (omega arith)
 leading_drop (x ∷ xs) (suc n) few = let rest = leading_drop xs n (grind (arith, nat_tests)) in grind (arith, nat_tests)
@@ -49,3 +46,7 @@ passes_to t i n r fits is far =
     let rest = leading_drop (drop i t) n (omega (arith, is, far)) in
     let on : prefix_len is_plain (drop n (drop i t)) ≡ prefix_len is_plain (drop (i + n) t) = ap (prefix_len is_plain) (drop-drop n i t) in
     omega (arith, rest, on)
+
+-- in a part of the text that ends at i + n the search stops where it does in all, or with the part
+pub in_part : (t : List ℕ) (i n : ℕ) → i + n ≤ length t → next_ending_lem (take (i + n) t) i ≡ min (next_ending_lem t i) (i + n)
+in_part t i n fits = omega (arith, ap (prefix_len is_plain) (drop-take i n t), leading_take (drop i t) n, length-take (i + n) t, prefix_len-le-length is_plain (drop i t), length-drop i t)

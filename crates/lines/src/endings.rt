@@ -2,17 +2,20 @@
 //
 // Most lines are short, so it looks at 16 bytes at a time first. After 96 bytes without a hit it passes over blocks of
 // 256, whose test the compiler turns into a few vector instructions. A plain loop does the last bytes of the text.
-ghost use Rattle.std.specs.Prelude.{◌≡◌, ℕ, ◌+◌, ◌<◌, ◌≤◌, min, true, map, length, take, ◌≢◌, slice_index};
+ghost use Rattle.std.specs.Prelude.{◌≡◌, ℕ, ◌+◌, ◌<◌, ◌≤◌, min, true, map, length, take, ◌≢◌, slice_index, position, nat_lt, ◌&&◌};
 ghost use Rattle.std.specs.Simd.Lanes.{mask_l};
-ghost use Rattle.std.specs.List.{prefix_len};
+ghost use Rattle.std.specs.List.{prefix_len, fold};
 ghost use Rattle.lines.specs.LineRule.{ends_line_lem};
-ghost use Rattle.lines.specs.Endings.{is_plain, next_ending_lem};
+ghost use Rattle.lines.specs.Endings.{is_plain, is_far, next_ending_lem};
 
 use std::simd::prelude::*;
 
 const CR: u8 = b'\r';
 
 const LF: u8 = b'\n';
+
+// How far the search looks at 16 bytes at a time before it passes over blocks of 256.
+const NEAR: usize = 96;
 
 // The first place from `from` on that holds CR or LF, or the length where there is none.
 pub fn next_ending(text: &[u8], from: usize) -> usize
@@ -21,17 +24,12 @@ pub fn next_ending(text: &[u8], from: usize) -> usize
     if from > text.len() {
         return text.len();
     }
-    let mut at = from;
-    let mut tries: u32 = 0;
-    while tries < 6 && text.len() - at >= 16 {
-        let found = ending_in_16(text, at);
-        if found < at + 16 {
-            return found;
-        }
-        at += 16;
-        tries += 1;
+    let near = from + NEAR.min(text.len() - from);
+    let found = next_by_16(&text[..near], from);
+    if found < near {
+        return found;
     }
-    next_by_16(text, skip_blocks(text, at))
+    next_by_16(text, skip_blocks(text, near))
 }
 
 // The same, 16 bytes at a time.
@@ -39,27 +37,36 @@ fn next_by_16(text: &[u8], from: usize) -> usize
     requires { from ≤ length text.now }
     ensures { result ≡ next_ending_lem text.now from }
 {
-    let mut at = from;
-    while text.len() - at >= 16 {
-        let found = ending_in_16(text, at);
-        if found < at + 16 {
-            return found;
-        }
-        at += 16;
+    let (blocks, _) = text[from..].as_chunks::<16>();
+    match first_block(blocks) {
+        Some(i) => from + 16 * i + plain_front(&blocks[i]),
+        None => next_by_byte(text, from + 16 * blocks.len()),
     }
-    next_by_byte(text, at)
 }
 
-// The same, byte by byte.
+// The first of some blocks that holds CR or LF.
+fn first_block(blocks: &[[u8; 16]]) -> Option<usize>
+    ensures { result ≡ position (λ block. nat_lt (prefix_len is_plain block) 16) blocks.now }
+{
+    blocks.iter().position(|block| plain_front(block) < 16)
+}
+
+// The same as next_ending, byte by byte.
 fn next_by_byte(text: &[u8], from: usize) -> usize
+    requires { from ≤ length text.now }
     ensures { result ≡ next_ending_lem text.now from }
 {
-    for at in from..text.len() {
-        if ends_line(text[at]) {
-            return at;
-        }
+    match first_ending(&text[from..]) {
+        Some(plain) => from + plain,
+        None => text.len(),
     }
-    text.len()
+}
+
+// The first CR or LF of some bytes.
+fn first_ending(bytes: &[u8]) -> Option<usize>
+    ensures { result ≡ position ends_line_lem bytes.now }
+{
+    bytes.iter().position(|byte| ends_line(*byte))
 }
 
 fn ends_line(byte: u8) -> bool
@@ -74,43 +81,32 @@ fn skip_blocks(text: &[u8], from: usize) -> usize
     ensures within { result ≤ length text.now }
     ensures passed { next_ending_lem text.now result ≡ next_ending_lem text.now from }
 {
-    let mut at = from;
-    while text.len() - at >= 256 {
-        if !is_clear_256(text, at) {
-            return at;
-        }
-        at += 256;
-    }
-    at
+    let (blocks, _) = text[from..].as_chunks::<256>();
+    from + 256 * clear_blocks(blocks)
 }
 
-// True only where none of the 256 bytes from `at` on is CR or LF. It tells by the least of the bytes less LF, so it
-// also says false for VT and FF, which stand between the two.
-fn is_clear_256(text: &[u8], at: usize) -> bool
-    requires { at + 256 ≤ length text.now }
-    ensures { result ≡ true → (k : ℕ) → at ≤ k → k < at + 256 → (slice_index text.now k ≢ 13) × (slice_index text.now k ≢ 10) }
+// How many of some blocks are clear before the first that is not.
+fn clear_blocks(blocks: &[[u8; 256]]) -> usize
+    ensures { result ≡ prefix_len (fold (λ clear byte. clear && is_far byte) true) blocks.now }
 {
-    let mut least: u8 = u8::MAX;
-    for k in at..at + 256 {
-        least = least.min(text[k].wrapping_sub(LF));
-    }
-    least > CR - LF
+    blocks.iter().take_while(|block| is_clear(block)).count()
 }
 
-// The first CR or LF of the 16 bytes from `at` on, or `at + 16` where there is none.
-fn ending_in_16(text: &[u8], at: usize) -> usize
-    requires { at + 16 ≤ length text.now }
-    ensures { result ≡ min (next_ending_lem text.now at) (at + 16) }
+// Whether no byte of a block is CR or LF, or VT or FF, which stand between the two.
+fn is_clear(block: &[u8; 256]) -> bool
+    ensures { result ≡ fold (λ clear byte. clear && is_far byte) true block.now }
 {
-    at + plain_front(&text[at..])
+    block.iter().fold(
+        true,
+        |clear, byte| clear & (byte.wrapping_sub(LF) > CR - LF),
+    )
 }
 
-// How many of the first 16 bytes stand before the first CR or LF among them.
-fn plain_front(text: &[u8]) -> usize
-    requires { 16 ≤ length text.now }
-    ensures { result ≡ prefix_len is_plain (take 16 text.now) }
+// How many bytes of a block stand before its first CR or LF.
+fn plain_front(block: &[u8; 16]) -> usize
+    ensures { result ≡ prefix_len is_plain block.now }
 {
-    let endings = endings_mask(text);
+    let endings = endings_mask(block);
     if endings == 0 {
         16
     } else {
@@ -118,11 +114,10 @@ fn plain_front(text: &[u8]) -> usize
     }
 }
 
-// Bit k is set where byte k is CR or LF, k below 16.
-fn endings_mask(text: &[u8]) -> u64
-    requires { 16 ≤ length text.now }
-    ensures { result ≡ mask_l (map ends_line_lem (take 16 text.now)) }
+// Bit k is set where byte k is CR or LF.
+fn endings_mask(block: &[u8; 16]) -> u64
+    ensures { result ≡ mask_l (map ends_line_lem block.now) }
 {
-    let bytes = u8x16::from_slice(text);
+    let bytes = u8x16::from_array(*block);
     (bytes.simd_eq(u8x16::splat(CR)) | bytes.simd_eq(u8x16::splat(LF))).to_bitmask()
 }

@@ -1,9 +1,13 @@
-use Rattle.std.proofs.Common.{sym, ◌∙◌}
-use Rattle.lines.proofs.Seeking.{passes, stops}
+use Rattle.std.proofs.Common.{position, sym, ap, ◌∙◌}
+use Rattle.std.proofs.lemmas.List.{take_rest}
+use Rattle.lines.specs.LineRule.{ends_line_lem}
+use Rattle.lines.proofs.Blocks.{hit, miss}
 use Rattle.lines.proofs.endings.next_by_byte.Goals as goal
 
-pub returns-then-ends_line : goal.returns-then-ends_line
-returns-then-ends_line c = sym (stops _ _ c.loop-at-test.true (sym c.ends_line.ensures ∙ c.if-ends_line.true)) ∙ c.loop-at.invariant
+pub returns-in-Some : goal.returns-in-Some
+returns-in-Some c =
+    hit c.args.text.now c.args.from c.requires c.in-Some.plain (sym (c.first_ending.ensures ∙ ap (position ends_line_lem) (take_rest c.args.text.now c.args.from)) ∙ c.in-Some.is)
 
-pub loop-at-preserved : goal.loop-at-preserved
-loop-at-preserved c = passes _ _ c.loop-at-test.true (sym c.ends_line.ensures ∙ c.if-ends_line.false) ∙ c.loop-at.invariant
+pub returns-in-None : goal.returns-in-None
+returns-in-None c =
+    miss c.args.text.now c.args.from c.requires (sym (c.first_ending.ensures ∙ ap (position ends_line_lem) (take_rest c.args.text.now c.args.from)) ∙ c.in-None.is)
