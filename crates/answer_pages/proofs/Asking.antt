@@ -17,9 +17,6 @@ pub record Asking (t : List ℕ) (asked : List (Option Asked)) (k at : ℕ) : Ty
 pub asking_first : (t : List ℕ) → Asking t [] 0 0
 asking_first t = record { slots = refl; left = rising t }
 
-one : List ℕ → ℕ → Option Asked
-one line k = Some (record { line = line; part = slot k })
-
 module _ {t : List ℕ} {asked : List (Option Asked)} {k at : ℕ} (h : Asking t asked k at) where
   module _ (b : LineBreak) (is : break_ending (breaks t) k ≡ Some b) where
     first : drop k (breaks t) ≡ b ∷ drop (k + 1) (breaks t)

@@ -79,9 +79,6 @@ first (Answer at part) cs k (line ∷ others) is =
 module _ (t : List ℕ) where
   -- what the first of them leaves and tells
   module _ (page : List ℕ) (c : Call) (cs : List Call) (k : ℕ) (lines : List (List ℕ)) (f : First c cs k lines) where
-    left : List ℕ
-    left = buffer_after (buffer_at page (slot k)) (line_for t f.line)
-
     page_is : page_after t page c ≡ with_buffer_lem page (slot k) (buffer_after (buffer_at page (slot k)) (line_for t f.line))
     page_is = ap (page_after t page) f.call_is ∙ ap (λ line. with_buffer_lem page (slot k) (buffer_after (buffer_at page (slot k)) (line_for t line))) f.bytes
 
