@@ -9,7 +9,7 @@ use answers::answer::{LONGEST_LINE, write_fault};
 use call_runs::calls::{Call, PagePart, Told};
 use call_runs::run::run;
 use line_maps::map::LineMap;
-use lines::breaks::seen_bytes;
+use lines::text::seen_bytes;
 use lines::cursor::LineBreaks;
 use lines::records::Fault;
 use std::alloc::{AllocError, Global};

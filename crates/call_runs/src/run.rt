@@ -6,7 +6,6 @@ ghost use Rattle.call_runs.specs.RunLaw.{Lawful};
 
 use crate::calls::{Call, PagePart, Told};
 use answers::answer::answer;
-use answers::faults::AnswerFault;
 use line_maps::map::LineMap;
 use line_maps::place::locate;
 use line_maps::reading::read;
@@ -61,5 +60,5 @@ fn answer_into<M: LineMap>(
     ensures onward { M.frontier map.old ≤ M.frontier map.new }
 {
     let places = part.within(page.len());
-    answer(map, line, &mut page[places]).map_err(AnswerFault::numbers)
+    answer(map, line, &mut page[places]).map_err(Fault::from)
 }

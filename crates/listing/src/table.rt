@@ -5,7 +5,7 @@ ghost use Rattle.listing.specs.Table.{ending_of_lem, line_up_to, last_from, row_
 
 use crate::line::{Ending, Line};
 use crate::tally::Tally;
-use lines::breaks::seen_bytes;
+use lines::text::seen_bytes;
 use lines::cursor::LineBreaks;
 use lines::records::LineBreak;
 use std::alloc::{AllocError, Global};

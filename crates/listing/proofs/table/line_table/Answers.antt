@@ -19,7 +19,7 @@ short : (c : In-Some) → length c.seen_bytes-text.result.now ≤ 4294967295
 short c = omega (arith, ap length c.seen_bytes-text.ensures, few_seen c.args.source.now)
 
 told : (c : In-Some) → Some c.in-Some.found ≡ next_break_lem (breaks c.seen_bytes-text.result.now) c.loop-found.start
-told c = c.in-Some.ensures.told ∙ ap (λ t. next_break_lem (breaks t) c.loop-found.cursor.at) c.loop-found.invariant.0 ∙ ap (next_break_lem (breaks c.seen_bytes-text.result.now)) c.loop-found.invariant.1
+told c = c.in-Some.ensures.steps.told ∙ ap (λ t. next_break_lem (breaks t) c.loop-found.cursor.at) c.loop-found.invariant.0 ∙ ap (next_break_lem (breaks c.seen_bytes-text.result.now)) c.loop-found.invariant.1
 
 pub ended_line-line-requires : goal.ended_line-line-requires
 ended_line-line-requires c = let going = c.loop-found.invariant.2 in record {
@@ -41,8 +41,8 @@ loop-found-smaller c =
 pub loop-found-preserved : goal.loop-found-preserved
 loop-found-preserved c =
     let at = (goal.at.loop-found-preserved c).In-Some in (
-      c.in-Some.ensures.input ∙ c.loop-found.invariant.0,
-      c.in-Some.ensures.stands ∙ sym c.next_line_start-start.ensures,
+      c.in-Some.ensures.steps.input ∙ c.loop-found.invariant.0,
+      c.in-Some.ensures.steps.stands ∙ sym c.next_line_start-start.ensures,
       going_more (short at) c.loop-found.invariant.2 c.in-Some.found (told at) _ _ _ c.ended_line-line.ensures c.with-tally.ensures c.in_ok-push_row.ensures _ c.next_line_start-start.ensures,
     )
 
@@ -51,7 +51,7 @@ short_end : (c : In_default) → length c.seen_bytes-text.result.now ≤ 4294967
 short_end c = omega (arith, ap length c.seen_bytes-text.ensures, few_seen c.args.source.now)
 
 told_end : (c : In_default) → None ≡ next_break_lem (breaks c.seen_bytes-text.result.now) c.loop-found.start
-told_end c = c.in_default.ensures.told ∙ ap (λ t. next_break_lem (breaks t) c.loop-found.cursor.at) c.loop-found.invariant.0 ∙ ap (next_break_lem (breaks c.seen_bytes-text.result.now)) c.loop-found.invariant.1
+told_end c = c.in_default.ensures.steps.told ∙ ap (λ t. next_break_lem (breaks t) c.loop-found.cursor.at) c.loop-found.invariant.0 ∙ ap (next_break_lem (breaks c.seen_bytes-text.result.now)) c.loop-found.invariant.1
 
 pub last_line-line-requires : goal.last_line-line-requires
 last_line-line-requires c = let going = c.loop-found.invariant.2 in record {
