@@ -1,7 +1,6 @@
 -- No line to write has more than 55 bytes. Assumes nothing.
-use Rattle.std.proofs.Common.{◌≡◌, ℕ, ◌+◌, ◌^◌, ◌<◌, ◌≤◌, true, false, cond, List, [], ◌∷◌, ◌++◌, length, Some, None, Ok, Err, codes, decimal, Option, Result, sym, refl, ap, ◌∙◌, subst, ⊎_elim, arith}
+use Rattle.std.proofs.Common.{◌≡◌, ℕ, ◌+◌, ◌^◌, ◌<◌, ◌≤◌, true, false, Bool, cond, List, [], ◌∷◌, ◌++◌, length, Some, None, Ok, Err, codes, decimal, Option, Result, sym, refl, ap, ◌∙◌, subst, arith}
 use Rattle.std.proofs.lemmas.List.{length-append}
-use Rattle.std.proofs.lemmas.Bool.{cases_Bool}
 use Rattle.lines.specs.Breaks.{breaks, line_of}
 use Rattle.lines.specs.Windows.{has_none, window_end_lem, window}
 use Rattle.lines.specs.declared.records.Context.{Context}
@@ -28,6 +27,11 @@ pub window_short : (w : Window) → w.start < 2 ^ 32 → w.length < 2 ^ 32 → w
 window_short w start long line column count =
     row_length (decimal w.start) (decimal w.length) (decimal w.line) (decimal w.column) (decimal w.line_count) (ten_at_most _ start) (ten_at_most _ long) (ten_at_most _ line) (ten_at_most _ column) (ten_at_most _ count)
 
+-- a window that is shown is the one that there is
+shown_as : (lacks : Bool) (v w : Window) → cond lacks None (Some v) ≡ Some w → (lacks ≡ false) × (v ≡ w)
+shown_as true v w is = absurd cc
+shown_as false v w is = (refl, cc)
+
 -- every number of a window is at most the length of its text
 module _ (t : List ℕ) (span : SourceSpan) (context : Context) where
   -- a line number is
@@ -35,32 +39,21 @@ module _ (t : List ℕ) (span : SourceSpan) (context : Context) where
   line_in o = omega (arith, line_few (breaks t) o, few 0 (breaks t) (length t) (rising t))
 
   module _ (w : Window) (is : window t span context ≡ Some w) where
-    shown : has_none (length t) span.offset span.length context.before ≡ false
-    shown = ⊎_elim
-        (λ (lacks : has_none (length t) span.offset span.length context.before ≡ true).
-        let none = sym (ap (λ no_one. cond no_one None (Some (the_window t span context))) lacks) ∙ is in
-        let z : ◌≡◌ {A = ℕ} 0 1 = cc in absurd (omega arith))
-        (λ (some : has_none (length t) span.offset span.length context.before ≡ false). some)
-        (cases_Bool (has_none (length t) span.offset span.length context.before))
-
-    that : the_window t span context ≡ w
-    that =
-        let e : Some (the_window t span context) ≡ Some w = sym (ap (λ no_one. cond no_one None (Some (the_window t span context))) shown) ∙ is in
-        (cc)
-
     pub short_text : length t ≤ 4294967295 → length (window_text w) ≤ 55
-    short_text short = subst (λ w. length (window_text w) ≤ 55) that (
+    short_text short =
         let v = the_window t span context in
-        let inside = fits t span context shown in
+        let shown = shown_as (has_none (length t) span.offset span.length context.before) v w is in
+        let inside = fits t span context shown.0 in
         let column : v.column ≤ length t = omega (arith, inside, lowered_le t v.start) in
-        window_short v (omega (arith, inside)) (omega (arith, inside)) (omega (arith, line_in span.offset)) (omega (arith, column)) (omega (arith, line_in (window_end_lem (length t) (breaks t) (span.offset + span.length) context.after))))
+        subst (λ w. length (window_text w) ≤ 55) shown.1
+        (window_short v (omega (arith, inside)) (omega (arith, inside)) (omega (arith, line_in span.offset)) (omega (arith, column)) (omega (arith, line_in (window_end_lem (length t) (breaks t) (span.offset + span.length) context.after))))
 
 -- the line that answers a label line
 pub line_short : (t line text : List ℕ) → length t ≤ 4294967295 → line_for t line ≡ Ok text → length text ≤ 55
 line_short t line text short is = by_label (label_of line) refl
   where
     by_window : (label : Label) (w : Option Window) → window t label.span label.context ≡ w → line_or w ≡ Ok text → length text ≤ 55
-    by_window label None shown told = let z : ◌≡◌ {A = ℕ} 0 1 = cc in absurd (omega arith)
+    by_window label None shown told = absurd cc
     by_window label (Some w) shown told =
         let same : window_text w ≡ text = cc in
         subst (λ l. length l ≤ 55) same (short_text t label.span label.context w shown short)
@@ -68,5 +61,5 @@ line_short t line text short is = by_label (label_of line) refl
     by_label : (r : Result Label Fault) → label_of line ≡ r → length text ≤ 55
     by_label (Err e) read =
         let told : Err e ≡ Ok text = sym (ap (λ r. followed r (λ label. line_or (window t label.span label.context))) read) ∙ is in
-        let z : ◌≡◌ {A = ℕ} 0 1 = cc in absurd (omega arith)
+        absurd cc
     by_label (Ok label) read = by_window label (window t label.span label.context) refl (sym (ap (λ r. followed r (λ label. line_or (window t label.span label.context))) read) ∙ is)

@@ -59,10 +59,10 @@ record First (c : Call) (cs : List Call) (k : ℕ) (lines : List (List ℕ)) : T
   rest : map asked_by cs ≡ slots_from (k + 1) others
 
 first : (c : Call) (cs : List Call) (k : ℕ) (lines : List (List ℕ)) → map asked_by (c ∷ cs) ≡ slots_from k lines → First c cs k lines
-first c cs k [] is = let z : ◌≡◌ {A = ℕ} 0 1 = cc in absurd (omega arith)
-first (Read span context) cs k (line ∷ others) is = let z : ◌≡◌ {A = ℕ} 0 1 = cc in absurd (omega arith)
-first (Locate o) cs k (line ∷ others) is = let z : ◌≡◌ {A = ℕ} 0 1 = cc in absurd (omega arith)
-first Forget cs k (line ∷ others) is = let z : ◌≡◌ {A = ℕ} 0 1 = cc in absurd (omega arith)
+first c cs k [] is = absurd cc
+first (Read span context) cs k (line ∷ others) is = absurd cc
+first (Locate o) cs k (line ∷ others) is = absurd cc
+first Forget cs k (line ∷ others) is = absurd cc
 first (Answer at part) cs k (line ∷ others) is =
     let asked : ◌≡◌ {A = Asked} (record { line = at.now; part = part }) (record { line = line; part = slot k }) = cc in
     let more : map asked_by cs ≡ slots_from (k + 1) others = cc in
@@ -79,9 +79,6 @@ first (Answer at part) cs k (line ∷ others) is =
 module _ (t : List ℕ) where
   -- what the first of them leaves and tells
   module _ (page : List ℕ) (c : Call) (cs : List Call) (k : ℕ) (lines : List (List ℕ)) (f : First c cs k lines) where
-    left : List ℕ
-    left = buffer_after (buffer_at page (slot k)) (line_for t f.line)
-
     page_is : page_after t page c ≡ with_buffer_lem page (slot k) (buffer_after (buffer_at page (slot k)) (line_for t f.line))
     page_is = ap (page_after t page) f.call_is ∙ ap (λ line. with_buffer_lem page (slot k) (buffer_after (buffer_at page (slot k)) (line_for t line))) f.bytes
 
@@ -128,7 +125,7 @@ module _ (t : List ℕ) where
 
     gathers : (page : List ℕ) (calls : List Call) (k : ℕ) (lines : List (List ℕ)) → map asked_by calls ≡ slots_from k lines → (k + length lines) * 55 ≤ length page → gathered (drop (k * 55) (page_left t page calls)) (tells t page calls) ≡ flat_map (λ line. printed (line_for t line)) lines
     gathers page [] k [] is room = refl
-    gathers page [] k (line ∷ lines) is room = let z : ◌≡◌ {A = ℕ} 0 1 = cc in absurd (omega arith)
+    gathers page [] k (line ∷ lines) is room = absurd cc
     gathers page (call ∷ calls) k lines is room =
         let f = first call calls k lines is in
         let next = page_after t page call in
@@ -156,7 +153,7 @@ never_lower (call ∷ calls) k lines was is asked way =
 -- as many calls as lines
 as_many : (calls : List Call) (k : ℕ) (lines : List (List ℕ)) → map asked_by calls ≡ slots_from k lines → length lines ≡ length calls
 as_many [] k [] is = refl
-as_many [] k (line ∷ lines) is = let z : ◌≡◌ {A = ℕ} 0 1 = cc in absurd (omega arith)
+as_many [] k (line ∷ lines) is = absurd cc
 as_many (call ∷ calls) k lines is =
     let f = first call calls k lines is in
     omega (arith, ap length f.lines_are, as_many calls (k + 1) f.others f.rest)

@@ -9,9 +9,8 @@ use answers::answer::{LONGEST_LINE, write_fault};
 use call_runs::calls::{Call, PagePart, Told};
 use call_runs::run::run;
 use line_maps::map::LineMap;
-use lines::text::seen_bytes;
-use lines::cursor::LineBreaks;
 use lines::records::Fault;
+use lines::text::Text;
 use std::alloc::{AllocError, Global};
 
 // For each label line of the input, in order, its answer or the line that tells its fault. All labels are answered in
@@ -36,16 +35,16 @@ pub fn answer_page<M: LineMap>(
 fn label_calls<'a>(heap: Global, input: &'a [u8]) -> Result<Vec<Call<'a>>, AllocError>
     ensures { IfOk result (λ calls. (map asked_by calls.items ≡ slots_from 0 (labels_in (seen input.now))) × (vec_len calls < 2 ^ 33)) }
 {
-    let text = seen_bytes(input);
+    let text = Text::new(input);
+    let bytes = text.bytes();
     let mut calls = Vec::new(heap);
     let mut start = 0;
-    let mut cursor = LineBreaks::new(input);
-    while let Some(found) = cursor.next() {
-        push_call(&mut calls, &text[start..found.start as usize])?;
+    for found in text.breaks() {
+        push_call(&mut calls, &bytes[start..found.start as usize])?;
         start = found.next_line_start();
     }
-    if start < text.len() {
-        push_call(&mut calls, &text[start..])?;
+    if start < bytes.len() {
+        push_call(&mut calls, &bytes[start..])?;
     }
     Ok(calls)
 }
