@@ -3,8 +3,6 @@
 // `source HEX` names the source of the rows after it. `answer LENGTH HEX` asks for the answer to a label line, and
 // `fault LENGTH NUMBER LAYER FIELD PLACE` for the line of a fault, in a buffer of that length. A row that begins with
 // `#` is a comment. The bytes of a source and of a line are in hexadecimal.
-ghost use Rattle.std.specs.Prelude.{◌≤◌, IfOk};
-
 use answers::answer::{answer, write_fault};
 use anyhow::{anyhow, bail};
 use line_maps::plain::PlainScan;
@@ -46,7 +44,7 @@ impl Table {
             ["answer", length] => self.answered(length, ""),
             ["answer", length, line] => self.answered(length, line),
             ["fault", length, number, layer, field, place] => self.fault_written(
-                length_of(length)?,
+                buffer_of(self.heap, length)?,
                 Fault {
                     number: number.parse()?,
                     layer: layer.parse()?,
@@ -67,12 +65,10 @@ impl Table {
 
     // What `answer` tells of a line in hexadecimal, and its buffer after the call.
     fn answered(&self, length: &str, line: &str) -> anyhow::Result<Option<String>> {
-        let length = length_of(length)?;
+        let mut buffer = buffer_of(self.heap, length)?;
         let line = bytes_of(self.heap, line)?;
         let mut map = PlainScan::new(self.source.as_slice());
-        let mut buffer = [FILL; LONGEST];
-        let out = &mut buffer[..length];
-        let told = match answer(&mut map, line.as_slice(), out) {
+        let told = match answer(&mut map, line.as_slice(), buffer.as_mut_slice()) {
             Ok(count) => format!(in self.heap; "count {count}")?,
             Err(fault) => {
                 let Fault {
@@ -84,32 +80,26 @@ impl Table {
                 format!(in self.heap; "fault {number},{layer},{field},{place}")?
             }
         };
-        with_buffer(told, out)
+        with_buffer(told, buffer.as_slice())
     }
 
     // What `write_fault` tells, and its buffer after the call.
-    fn fault_written(&self, length: usize, fault: Fault) -> anyhow::Result<Option<String>>
-        requires { length ≤ 60 }
-    {
-        let mut buffer = [FILL; LONGEST];
-        let out = &mut buffer[..length];
-        let told = match write_fault(fault, out) {
+    fn fault_written(&self, mut buffer: Vec<u8>, fault: Fault) -> anyhow::Result<Option<String>> {
+        let told = match write_fault(fault, buffer.as_mut_slice()) {
             Some(count) => format!(in self.heap; "count {count}")?,
             None => String::from_str(self.heap, "none")?,
         };
-        with_buffer(told, out)
+        with_buffer(told, buffer.as_slice())
     }
 }
 
-// The length of a buffer.
-fn length_of(word: &str) -> anyhow::Result<usize>
-    ensures { IfOk result (λ n. n ≤ 60) }
-{
-    let length = word.parse()?;
+// A buffer of the length that a row asks for, before the call.
+fn buffer_of(heap: Global, length: &str) -> anyhow::Result<Vec<u8>> {
+    let length = length.parse()?;
     if length > LONGEST {
         bail!("a row has a buffer of more than 60 bytes");
     }
-    Ok(length)
+    Ok(vec![in heap; FILL; length]?)
 }
 
 // The bytes of a source or a line.

@@ -1,5 +1,6 @@
 -- A line of a text, and the lines after it. Assumes nothing.
 use Rattle.std.proofs.Common.{◌≡◌, ℕ, zero, suc, ◌+◌, ◌-◌, ◌^◌, ◌<◌, ◌≤◌, List, [], ◌∷◌, length, drop, Option, option_map, IfSome, Some, None, sym, ap, ◌∙◌, subst, add-one, length-drop, arith}
+use Rattle.std.specs.Iterator.{MakesProgress, item_count}
 use Rattle.lines.specs.Breaks.{seen, breaks, break_ending, past, line_start_lem, next_break_lem}
 use Rattle.lines.specs.Laws.{Rising}
 use Rattle.lines.specs.LineRule.{width}
@@ -10,6 +11,7 @@ use Rattle.lines.proofs.WidthRule.{width_rule}
 use Rattle.listing.specs.Table.{ending_of_lem, last_from, lines_from}
 use Rattle.listing.specs.Left.{lines_at, lines_left}
 use Rattle.listing.specs.declared.line.Ending.{Ending}
+use Rattle.listing.specs.declared.line.Line.{Line}
 use Rattle.listing.specs.declared.split.Lines.{Lines}
 
 pub rising : (t : List ℕ) → Rising 0 (breaks t) (length t)
@@ -61,6 +63,9 @@ module _ (l : Lines) (s : ℕ) (was : l.start ≡ Some s) where
     pub within : b.start < length l.text.now
     within = omega (arith, lie.up, lie.within)
 
+    pub next_within : past b ≤ length l.text.now
+    next_within = omega (arith, lie.within)
+
     pub next_number : l.number + 1 < 2 ^ 32
     next_number = omega (arith, l.short, ap length first, length-drop l.number bs, few 0 bs (length l.text.now) (rising l.text.now))
 
@@ -74,3 +79,7 @@ module _ (l : Lines) (s : ℕ) (was : l.start ≡ Some s) where
 
   pub ends : None ≡ next_break_lem (breaks (seen l.text.now)) s → lines_left l ≡ last_from l.text.now l.number s ∷ []
   ends told = all ∙ ap (λ bs. lines_from l.text.now bs l.number s) (drop_none bs l.number (told_is None told))
+
+-- a call that gave a line
+pub goes : (old new : Lines) (line : Line) → lines_left old ≡ line ∷ lines_left new → MakesProgress (λ _. Unit {0}) (item_count lines_left) old (Some line) new
+goes old new line step = record { on = λ _. (tt, tt, omega (arith, ap length step)); keeps = tt; rests = λ _. tt }

@@ -13,7 +13,7 @@ use lines::records::LineBreak;
 pub(crate) struct Lines<'a> {
     text: &'a [u8],
     number: u32,
-    start: Option<usize>,
+    start: Option<u32>,
     ghost short: { length text.now ≤ 4294967295 },
     ghost starts: { IfSome start (λ s. line_start_lem (breaks text.now) number ≡ Some s) } by { Prim.hlevel props },
 }
@@ -48,14 +48,14 @@ impl<'a> Iterator for Lines<'a> {
     fn next(&mut self) -> Option<Line> {
         let number = self.number;
         let start = self.start?;
-        match next_break(self.text, start) {
+        match next_break(self.text, start as usize) {
             Some(found) => {
                 self.number += 1;
-                self.start = Some(found.next_line_start());
+                self.start = Some(found.next_line_start() as u32);
                 Some(Line {
                     number,
-                    start: start as u32,
-                    length: found.start - start as u32,
+                    start,
+                    length: found.start - start,
                     ending: Some(ending_of(self.text, found)),
                 })
             }
@@ -63,8 +63,8 @@ impl<'a> Iterator for Lines<'a> {
                 self.start = None;
                 Some(Line {
                     number,
-                    start: start as u32,
-                    length: (self.text.len() - start) as u32,
+                    start,
+                    length: self.text.len() as u32 - start,
                     ending: None,
                 })
             }
