@@ -1,27 +1,37 @@
 -- What a page takes over. Assumes nothing.
-use Rattle.std.proofs.Common.{◌≡◌, ℕ, ◌+◌, ◌-◌, ◌<◌, ◌≤◌, cond, List, ◌++◌, length, get_or, take, drop, is_ok, IfOk, Some, None, Ok, Err, Option, Result, unwrap_or, sym, refl, ap, ◌∙◌, append_assoc, append-nil, arith}
-use Rattle.std.proofs.lemmas.List.{drop_more, drop_all, take_at}
+use Rattle.std.proofs.Common.{◌≡◌, ℕ, ◌<◌, ◌≤◌, cond, min, List, [], ◌∷◌, ◌++◌, length, take, drop, Some, None, Option, unwrap_or, inl, inr, sym, refl, ap, ◌∙◌, ◌⊎◌, append_assoc, arith}
+use Rattle.std.proofs.lemmas.List.{take_min, drop_min, take_at, drop_at}
 use Rattle.std.proofs.lemmas.Bool.{le-leb}
 use Rattle.answers.specs.Written.{filled, count_in}
-use Rattle.answer_runs.specs.declared.calls.Told.{Told}
+use Rattle.call_runs.specs.declared.calls.Told.{Told}
 use Rattle.answer_pages.specs.Slots.{shown_by, gathered}
 
--- a page that takes the first n of some bytes over, or finds no memory for them
-pub extended : {E : Type 0} (r : Result (Unit {0}) E) (before after bytes : List ℕ) (n : ℕ) (wanted : List ℕ) → after ≡ cond (is_ok r) (before ++ take (n - 0) bytes) before → take n bytes ≡ wanted → IfOk r (λ _. after ≡ before ++ wanted)
-extended (Ok u) before after bytes n wanted is same = let all : n - 0 ≡ n = omega arith in is ∙ ap (λ n. before ++ take n bytes) all ∙ ap (λ l. before ++ l) same
-extended (Err e) before after bytes n wanted is same = tt
+-- the first slot, and what is left of the slots
+pub gathered_cons : (slots : List ℕ) (one : Told) (others : List Told) → 0 < length slots → gathered slots (one ∷ others) ≡ shown_by (take 55 slots) one ++ gathered (drop 55 slots) others
+gathered_cons [] one others some = absurd (omega arith)
+gathered_cons (b ∷ bs) one others some = refl
+
+gathered_first : (slots slot rest : List ℕ) (one : Told) (others : List Told) → slots ≡ slot ++ rest → length slot ≡ min 55 (length slots) → 0 < length slots → gathered slots (one ∷ others) ≡ shown_by slot one ++ gathered rest others
+gathered_first slots slot rest one others is long some =
+    let front : take 55 slots ≡ slot = sym (take_min 55 slots) ∙ ap (take (min 55 (length slots))) is ∙ take_at slot rest (min 55 (length slots)) long in
+    let back : drop 55 slots ≡ rest = sym (drop_min 55 slots) ∙ ap (drop (min 55 (length slots))) is ∙ drop_at slot rest (min 55 (length slots)) long in
+    gathered_cons slots one others some ∙ ap (λ l. shown_by l one ++ gathered (drop 55 slots) others) front ∙ ap (λ l. shown_by slot one ++ gathered l others) back
 
 -- slot by slot
-pub gathered_more : (slots rest : List ℕ) (told : List Told) (i : ℕ) (d : Told) (page more next : List ℕ) → i < length told → page ++ gathered rest (drop i told) ≡ gathered slots told → more ≡ page ++ shown_by rest (get_or told i d) → next ≡ drop 55 rest → more ++ gathered next (drop (i + 1) told) ≡ gathered slots told
-gathered_more slots rest told i d page more next within so_far more-is next_is =
-    ap (λ l. more ++ gathered l (drop (i + 1) told)) next_is
-    ∙ ap (λ l. l ++ gathered (drop 55 rest) (drop (i + 1) told)) more-is
-    ∙ append_assoc page (shown_by rest (get_or told i d)) (gathered (drop 55 rest) (drop (i + 1) told))
-    ∙ sym (ap (λ l. page ++ gathered rest l) (drop_more told i d within))
+pub gathered_more : (page more slots slot rest whole : List ℕ) (told others : List Told) (one : Told) → page ++ gathered slots told ≡ whole → slots ≡ slot ++ rest → length slot ≡ min 55 (length slots) → 0 < length slots → told ≡ one ∷ others → more ≡ page ++ shown_by slot one → more ++ gathered rest others ≡ whole
+gathered_more page more slots slot rest whole told others one so_far is long some first more-is =
+    ap (λ l. l ++ gathered rest others) more-is
+    ∙ append_assoc page (shown_by slot one) (gathered rest others)
+    ∙ sym (ap (λ l. page ++ l) (ap (gathered slots) first ∙ gathered_first slots slot rest one others is long some))
     ∙ so_far
 
-pub gathered_all : (slots rest : List ℕ) (told : List Told) (i : ℕ) (page : List ℕ) → length told ≤ i → page ++ gathered rest (drop i told) ≡ gathered slots told → page ≡ gathered slots told
-gathered_all slots rest told i page past so_far = sym (append-nil page) ∙ sym (ap (λ l. page ++ gathered rest l) (drop_all i told past)) ∙ so_far
+-- nothing is left
+pub gathered_all : (slots : List ℕ) (told : List Told) → (length slots ≡ 0) ⊎ (length told ≡ 0) → gathered slots told ≡ []
+gathered_all [] [] none = refl
+gathered_all [] (x ∷ xs) none = refl
+gathered_all (b ∷ bs) [] none = refl
+gathered_all (b ∷ bs) (x ∷ xs) (inl none) = absurd (omega arith)
+gathered_all (b ∷ bs) (x ∷ xs) (inr none) = absurd (omega arith)
 
 -- a text that a buffer has room for stands at its front
 pub written : (out text after : List ℕ) (count : ℕ) (r : Option ℕ) → length text ≤ length out → r ≡ count_in out text → after ≡ filled out text → count ≡ unwrap_or r 0 → take count after ≡ text

@@ -2,11 +2,11 @@
 use Rattle.std.specs.Prelude.{ℕ, ◌+◌, ◌*◌, List, [], ◌∷◌, ◌++◌, take, drop, Some, None, Ok, Err, Option, Result}
 use Rattle.lines.specs.declared.records.Fault.{Fault}
 use Rattle.answers.specs.Written.{fault_text}
-use Rattle.answer_runs.specs.declared.calls.Call.{Call}
-use Rattle.answer_runs.specs.declared.calls.Call.TheVariants.{Read, Locate, Answer, Forget}
-use Rattle.answer_runs.specs.declared.calls.PagePart.{PagePart}
-use Rattle.answer_runs.specs.declared.calls.Told.{Told}
-use Rattle.answer_runs.specs.declared.calls.Told.TheVariants.{Shown, Located, Answered, Nothing}
+use Rattle.call_runs.specs.declared.calls.Call.{Call}
+use Rattle.call_runs.specs.declared.calls.Call.TheVariants.{Read, Locate, Answer, Forget}
+use Rattle.call_runs.specs.declared.calls.PagePart.{PagePart}
+use Rattle.call_runs.specs.declared.calls.Told.{Told}
+use Rattle.call_runs.specs.declared.calls.Told.TheVariants.{Shown, Located, Answered, Nothing}
 
 -- slot k: 55 bytes, as many as a line to write has at most
 abbrev pub slot : ℕ → PagePart
@@ -28,18 +28,19 @@ abbrev pub slots_from : ℕ → List (List ℕ) → List (Option Asked)
 slots_from k [] = []
 slots_from k (line ∷ others) = Some (record { line = line; part = slot k }) ∷ slots_from (k + 1) others
 
--- what is taken over from a slot that begins with these bytes, by what was told of it
+-- what is taken over from a slot, by what was told of it
 abbrev pub taken_over : List ℕ → Result ℕ Fault → List ℕ
-taken_over slots (Ok count) = take count slots
-taken_over slots (Err f) = fault_text f
+taken_over bytes (Ok count) = take count bytes
+taken_over bytes (Err f) = fault_text f
 
 abbrev pub shown_by : List ℕ → Told → List ℕ
-shown_by slots (Shown w) = []
-shown_by slots (Located p) = []
-shown_by slots (Answered r) = taken_over slots r
-shown_by slots Nothing = []
+shown_by bytes (Shown w) = []
+shown_by bytes (Located p) = []
+shown_by bytes (Answered r) = taken_over bytes r
+shown_by bytes Nothing = []
 
--- all that is taken over, slot by slot
+-- all that is taken over, slot by slot, as far as there are slots
 abbrev pub gathered : List ℕ → List Told → List ℕ
 gathered slots [] = []
-gathered slots (told ∷ others) = shown_by slots told ++ gathered (drop 55 slots) others
+gathered [] (told ∷ others) = []
+gathered (b ∷ slots) (told ∷ others) = shown_by (take 55 (b ∷ slots)) told ++ gathered (drop 55 (b ∷ slots)) others

@@ -1,16 +1,15 @@
 // The page of answers to the label lines of an input.
-ghost use Rattle.std.specs.Prelude.{◌≡◌, ◌+◌, ◌-◌, ◌^◌, ◌<◌, ◌≤◌, [], ◌∷◌, ◌++◌, map, length, take, drop, IfOk, Some, vec_len, OnOk};
+ghost use Rattle.std.specs.Prelude.{◌≡◌, ◌+◌, ◌^◌, ◌<◌, ◌≤◌, [], ◌∷◌, ◌++◌, map, IfOk, Some, vec_len, OnOk};
 ghost use Rattle.lines.specs.Breaks.{seen};
 ghost use Rattle.answers.specs.Written.{fault_text};
-ghost use Rattle.answer_runs.specs.Reference.{tells, page_left, Went};
 ghost use Rattle.answer_pages.specs.Pages.{labels_in, page_for};
-ghost use Rattle.answer_pages.specs.Slots.{slot, Asked, asked_by, slots_from, taken_over, shown_by, gathered};
+ghost use Rattle.answer_pages.specs.Slots.{slot, Asked, asked_by, slots_from, shown_by, gathered};
 
-use answer_runs::calls::{Call, PagePart, Told};
-use answer_runs::run::run;
 use answers::answer::{LONGEST_LINE, write_fault};
+use call_runs::calls::{Call, PagePart, Told};
+use call_runs::run::run;
 use line_maps::map::LineMap;
-use lines::breaks::seen_bytes;
+use lines::text::seen_bytes;
 use lines::cursor::LineBreaks;
 use lines::records::Fault;
 use std::alloc::{AllocError, Global};
@@ -27,33 +26,10 @@ pub fn answer_page<M: LineMap>(
     ensures onward { M.frontier map.old ≤ M.frontier map.new }
 {
     let calls = label_calls(heap, input)?;
-    let count = calls.len();
-    let mut told = vec![in heap; Told::Nothing; count]?;
-    let mut slots = vec![in heap; 0u8; count * LONGEST_LINE]?;
-    answer_calls(
-        heap,
-        map,
-        calls.as_slice(),
-        slots.as_mut_slice(),
-        told.as_mut_slice(),
-    )
-}
-
-// Runs the calls, with a place for what each tells, and gathers the page from the slots.
-fn answer_calls<M: LineMap>(
-    heap: Global,
-    map: &mut M,
-    calls: &[Call],
-    slots: &mut [u8],
-    told: &mut [Told],
-) -> Result<Vec<u8>, AllocError>
-    requires { length told.old ≡ length calls.now }
-    ensures page { IfOk result (λ page. page.items ≡ gathered (page_left (M.text map.old) slots.old calls.now) (tells (M.text map.old) slots.old calls.now)) }
-    ensures kept { M.text map.new ≡ M.text map.old }
-    ensures went { Went calls.now (M.frontier map.old) (M.frontier map.new) }
-{
-    let _ = run(map, slots, calls, told);
-    gather(heap, slots, told)
+    let mut told = vec![in heap; Told::Nothing; calls.len()]?;
+    let mut slots = vec![in heap; 0u8; calls.len() * LONGEST_LINE]?;
+    let _ = run(map, &mut slots, &calls, &mut told);
+    gather(heap, &slots, &told)
 }
 
 // A call for each label line of an input.
@@ -65,69 +41,47 @@ fn label_calls<'a>(heap: Global, input: &'a [u8]) -> Result<Vec<Call<'a>>, Alloc
     let mut start = 0;
     let mut cursor = LineBreaks::new(input);
     while let Some(found) = cursor.next() {
-        push_call(&mut calls, text, start, found.start as usize)?;
+        push_call(&mut calls, &text[start..found.start as usize])?;
         start = found.next_line_start();
     }
     if start < text.len() {
-        push_call(&mut calls, text, start, text.len())?;
+        push_call(&mut calls, &text[start..])?;
     }
     Ok(calls)
 }
 
-// One call more: the line between two places of a text, into the next slot.
-fn push_call<'a>(
-    calls: &mut Vec<Call<'a>>,
-    text: &'a [u8],
-    start: usize,
-    end: usize,
-) -> Result<(), AllocError>
-    requires few { vec_len calls.old < 2 ^ 33 }
-    requires start { start ≤ end }
-    requires end { end ≤ length text.now }
-    ensures { OnOk result ((map asked_by calls.new.items ≡ map asked_by calls.old.items ++ Some (record { line = take (end - start) (drop start text.now); part = slot (vec_len calls.old) }) ∷ []) × (vec_len calls.new ≡ vec_len calls.old + 1)) }
+// One call more: this line, into the next slot.
+fn push_call<'a>(calls: &mut Vec<Call<'a>>, line: &'a [u8]) -> Result<(), AllocError>
+    requires { vec_len calls.old < 2 ^ 33 }
+    ensures { OnOk result ((map asked_by calls.new.items ≡ map asked_by calls.old.items ++ Some (record { line = line.now; part = slot (vec_len calls.old) }) ∷ []) × (vec_len calls.new ≡ vec_len calls.old + 1)) }
 {
     let part = PagePart {
         start: calls.len() * LONGEST_LINE,
         length: LONGEST_LINE,
     };
-    calls.push(Call::Answer(&text[start..end], part))?;
+    calls.push(Call::Answer(line, part))?;
     Ok(())
 }
 
-// The page, taken over from the slots by what was told of each.
+// The page, taken over slot by slot by what was told of each.
 fn gather(heap: Global, slots: &[u8], told: &[Told]) -> Result<Vec<u8>, AllocError>
     ensures { IfOk result (λ page. page.items ≡ gathered slots.now told.now) }
 {
     let mut page = Vec::new(heap);
-    let mut rest = slots;
-    for one in told {
-        push_told(&mut page, rest, *one)?;
-        rest = &rest[LONGEST_LINE.min(rest.len())..];
+    for (slot, one) in slots.chunks(LONGEST_LINE).zip(told) {
+        push_told(&mut page, slot, *one)?;
     }
     Ok(page)
 }
 
-// What was told of the first of the slots; only answers have one.
-fn push_told(page: &mut Vec<u8>, slots: &[u8], told: Told) -> Result<(), AllocError>
-    ensures { OnOk result (page.new.items ≡ page.old.items ++ shown_by slots.now told) }
+// What was told of a slot, if it is one of an answer: the line that was written into it, or the line of the fault.
+fn push_told(page: &mut Vec<u8>, slot: &[u8], told: Told) -> Result<(), AllocError>
+    ensures { OnOk result (page.new.items ≡ page.old.items ++ shown_by slot.now told) }
 {
     match told {
-        Told::Answered(answered) => push_answered(page, slots, answered),
+        Told::Answered(Ok(count)) => page.extend_from_slice(&slot[..count.min(slot.len())]),
+        Told::Answered(Err(fault)) => push_fault(page, fault),
         Told::Shown(_) | Told::Located(_) | Told::Nothing => Ok(()),
-    }
-}
-
-// The line that was written into the first of the slots, or the line of the fault.
-fn push_answered(
-    page: &mut Vec<u8>,
-    slots: &[u8],
-    answered: Result<usize, Fault>,
-) -> Result<(), AllocError>
-    ensures { OnOk result (page.new.items ≡ page.old.items ++ taken_over slots.now answered) }
-{
-    match answered {
-        Ok(count) => page.extend_from_slice(&slots[0..count.min(slots.len())]),
-        Err(fault) => push_fault(page, fault),
     }
 }
 
@@ -137,5 +91,5 @@ fn push_fault(page: &mut Vec<u8>, fault: Fault) -> Result<(), AllocError>
 {
     let mut line = [0; LONGEST_LINE];
     let count = write_fault(fault, &mut line).unwrap_or(0);
-    page.extend_from_slice(&line[0..count])
+    page.extend_from_slice(&line[..count])
 }

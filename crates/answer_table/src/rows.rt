@@ -76,7 +76,7 @@ impl Table {
                     layer,
                     field,
                     place,
-                } = fault.numbers();
+                } = Fault::from(fault);
                 format!(in self.heap; "fault {number},{layer},{field},{place}")?
             }
         };

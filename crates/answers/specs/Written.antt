@@ -1,5 +1,6 @@
 -- The line that answers a label, the line that tells a fault, and what each leaves in a buffer. Assumes nothing.
 use Rattle.std.specs.Prelude.{ℕ, Bool, cond, List, ◌++◌, length, drop, Some, None, Ok, Err, codes, decimal, Option, Result, nat_le}
+use Rattle.std.specs.List.{flat_map}
 use Rattle.lines.specs.Windows.{window}
 use Rattle.lines.specs.declared.records.Fault.{Fault}
 use Rattle.lines.specs.declared.records.Window.{Window}
@@ -13,6 +14,10 @@ window_text w = decimal w.start ++ (codes "," ++ (decimal w.length ++ (codes ","
 -- `fault`, number, layer, field and place
 abbrev pub fault_text : Fault → List ℕ
 fault_text f = codes "fault," ++ (decimal f.number ++ (codes "," ++ (decimal f.layer ++ (codes "," ++ (decimal f.field ++ (codes "," ++ (decimal f.place ++ codes "\n")))))))
+
+-- a word and numbers, parted by commas and closed by LF
+abbrev pub parted_text : List ℕ → List ℕ → List ℕ
+parted_text first numbers = first ++ (flat_map (λ n. codes "," ++ decimal n) numbers ++ codes "\n")
 
 -- a buffer takes a text whole, into its first bytes, or not at all
 abbrev pub has_room : List ℕ → List ℕ → Bool

@@ -2,11 +2,11 @@
 ghost use Rattle.std.specs.Prelude.{◌≡◌, ◌≤◌};
 ghost use Rattle.std.specs.Result.{result_map_both};
 ghost use Rattle.answers.specs.Faults.{answer_numbers};
-ghost use Rattle.answers.specs.Rows.{row_text};
 ghost use Rattle.answers.specs.Written.{window_text, fault_text, filled, count_in, line_for, answered, buffer_after};
 
 use crate::faults::AnswerFault;
-use crate::row::Row;
+use crate::row::{Row, put, row};
+use itoa::Buffer;
 use label_lines::label::read_label;
 use line_maps::map::LineMap;
 use line_maps::reading::read;
@@ -25,7 +25,7 @@ pub fn answer<M: LineMap>(map: &mut M, line: &[u8], out: &mut [u8]) -> Result<us
 {
     let label = read_label(line)?;
     let window = read(map, label.span, label.context).ok_or(AnswerFault::NoWindow)?;
-    window_row(window).put(out).ok_or(AnswerFault::ShortBuffer)
+    put(window_row(window).as_str(), out).ok_or(AnswerFault::ShortBuffer)
 }
 
 // Writes the numbers of a fault into the first bytes of the buffer and answers how many bytes those are, or none where
@@ -34,35 +34,26 @@ pub fn write_fault(fault: Fault, out: &mut [u8]) -> Option<usize>
     ensures count { result ≡ count_in out.old (fault_text fault) }
     ensures out { out.new ≡ filled out.old (fault_text fault) }
 {
-    fault_row(fault).put(out)
+    put(fault_row(fault).as_str(), out)
 }
 
 // The line to write for a window.
 fn window_row(window: Window) -> Row
-    ensures text { row_text result ≡ window_text window }
-    ensures len { result.len ≤ 55 }
+    ensures { result.bytes ≡ window_text window }
 {
-    let mut row = Row::new();
-    row.push_number(window.start);
-    row.push_next(window.length);
-    row.push_next(window.line);
-    row.push_next(window.column);
-    row.push_next(window.line_count);
-    row.push(b'\n');
-    row
+    let mut digits = Buffer::new();
+    row(
+        digits.format(window.start),
+        [window.length, window.line, window.column, window.line_count],
+    )
 }
 
 // The line to write for a fault.
 fn fault_row(fault: Fault) -> Row
-    ensures text { row_text result ≡ fault_text fault }
-    ensures len { result.len ≤ 55 }
+    ensures { result.bytes ≡ fault_text fault }
 {
-    let mut row = Row::new();
-    row.push_all(b"fault");
-    row.push_next(fault.number);
-    row.push_next(fault.layer);
-    row.push_next(fault.field);
-    row.push_next(fault.place);
-    row.push(b'\n');
-    row
+    row(
+        "fault",
+        [fault.number, fault.layer, fault.field, fault.place],
+    )
 }

@@ -14,13 +14,13 @@ pub enum AnswerFault {
     ShortBuffer,
 }
 
-impl AnswerFault {
-    // The fault's four numbers; a line's fault keeps its own.
-    pub fn numbers(self) -> Fault
-        ensures { result ≡ answer_numbers self }
-    {
-        let (number, layer) = match self {
-            AnswerFault::Line(fault) => return fault.numbers(),
+// The fault's four numbers; a line's fault keeps its own.
+impl From<AnswerFault> for Fault {
+    ghost from_gives = { λ e f. f ≡ answer_numbers e };
+
+    fn from(fault: AnswerFault) -> Fault {
+        let (number, layer) = match fault {
+            AnswerFault::Line(fault) => return Fault::from(fault),
             AnswerFault::NoWindow => (5, 3),
             AnswerFault::ShortBuffer => (6, 4),
         };

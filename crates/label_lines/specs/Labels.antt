@@ -1,5 +1,5 @@
 -- The label in a line, or what is wrong with the line. Assumes nothing.
-use Rattle.std.specs.Prelude.{ℕ, ◌+◌, ◌-◌, cond, List, [], ◌∷◌, length, drop, Ok, Err, Result, ◌==◌, nat_lt}
+use Rattle.std.specs.Prelude.{ℕ, ◌+◌, ◌-◌, Bool, true, false, cond, List, [], ◌∷◌, length, drop, Ok, Err, Result, ◌==◌, nat_lt}
 use Rattle.lines.specs.Spans.{span_of}
 use Rattle.lines.specs.declared.records.Fault.{Fault}
 use Rattle.label_lines.specs.Faults.{fault}
@@ -32,6 +32,25 @@ fields_at line at = fields_from at (drop at line)
 
 abbrev pub fields_past : List ℕ → ℕ → List Field
 fields_past line at = fields_after at (drop at line)
+
+-- what is still to be read of a line: how many bytes the line has, the fields, and whether the first of them starts
+-- right where the reading stands, or only after a comma
+pub record Unread : Type 0 where
+  pub size : ℕ
+  pub fields : List Field
+  pub begins : Bool
+
+-- the fields from a place on, where one begins or where one has ended
+abbrev pub fields_left : List ℕ → ℕ → Bool → List Field
+fields_left line at true = fields_at line at
+fields_left line at false = fields_past line at
+
+abbrev pub unread : List ℕ → ℕ → Bool → Unread
+unread line at due = record { size = length line; fields = fields_left line at due; begins = due }
+
+-- the same past the first field
+abbrev pub past_field : Unread → Unread
+past_field u = record { size = u.size; fields = drop 1 u.fields; begins = false }
 
 -- what comes of a result: its fault, or what its value leads to
 abbrev pub followed : {A B : Type 0} → Result A Fault → (A → Result B Fault) → Result B Fault

@@ -5,29 +5,36 @@ ghost use Rattle.label_lines.specs.declared.faults.LineFault.TheVariants.{Field}
 
 use lines::records::Fault;
 
-// A field's fault, with the field's number and the place in the line.
+// Where in a line a fault is: the number of a field, and a place.
 #[derive(Clone, Copy, PartialEq, Eq, Debug)]
-pub enum FieldFault {
-    Empty { field: u32, place: u32 },
-    NoDigit { field: u32, place: u32 },
-    TooLarge { field: u32, place: u32 },
+pub struct Spot {
+    pub field: u32,
+    pub place: u32,
 }
 
-impl FieldFault {
-    // The fault's four numbers.
-    pub fn numbers(self) -> Fault
-        ensures { result ≡ field_numbers self }
-    {
-        let (number, field, place) = match self {
-            FieldFault::Empty { field, place } => (1, field, place),
-            FieldFault::NoDigit { field, place } => (2, field, place),
-            FieldFault::TooLarge { field, place } => (3, field, place),
+// A field's fault.
+#[derive(Clone, Copy, PartialEq, Eq, Debug)]
+pub enum FieldFault {
+    Empty(Spot),
+    NoDigit(Spot),
+    TooLarge(Spot),
+}
+
+// The fault's four numbers.
+impl From<FieldFault> for Fault {
+    ghost from_gives = { λ e f. f ≡ field_numbers e };
+
+    fn from(fault: FieldFault) -> Fault {
+        let (number, spot) = match fault {
+            FieldFault::Empty(spot) => (1, spot),
+            FieldFault::NoDigit(spot) => (2, spot),
+            FieldFault::TooLarge(spot) => (3, spot),
         };
         Fault {
             number,
             layer: 1,
-            field,
-            place,
+            field: spot.field,
+            place: spot.place,
         }
     }
 }
@@ -37,19 +44,19 @@ impl FieldFault {
 pub enum LineFault {
     Field(FieldFault),
     TooLong,
-    Missing { field: u32, place: u32 },
+    Missing(Spot),
     FourthComma { place: u32 },
 }
 
-impl LineFault {
-    // The fault's four numbers; a field's fault keeps its own.
-    pub fn numbers(self) -> Fault
-        ensures { result ≡ line_numbers self }
-    {
-        let (field, place) = match self {
-            LineFault::Field(fault) => return fault.numbers(),
+// The fault's four numbers; a field's fault keeps its own.
+impl From<LineFault> for Fault {
+    ghost from_gives = { λ e f. f ≡ line_numbers e };
+
+    fn from(fault: LineFault) -> Fault {
+        let (field, place) = match fault {
+            LineFault::Field(fault) => return Fault::from(fault),
             LineFault::TooLong => (0, 255),
-            LineFault::Missing { field, place } => (field, place),
+            LineFault::Missing(spot) => (spot.field, spot.place),
             LineFault::FourthComma { place } => (5, place),
         };
         Fault {

@@ -1,5 +1,5 @@
 // The parts of a label line, handed out one by one.
-ghost use Rattle.std.specs.Prelude.{◌≡◌, ◌+◌, ◌≤◌, true, length};
+ghost use Rattle.std.specs.Prelude.{◌≡◌, ◌+◌, ◌≤◌, ◌==◌, true, length, position};
 ghost use Rattle.label_lines.specs.Parts.{piece_of, piece_at, place_after_lem, due_after, field_length};
 
 // A part of a label line. A field is the bytes between two commas, or between a comma and an end of the line.
@@ -48,28 +48,18 @@ impl<'a> LabelReader<'a> {
         ensures due { self.new.due ≡ due_after self.old.line.now self.old.at self.old.due }
     {
         let place = self.at;
-        if self.due {
-            let end = field_end(self.line, place);
-            let field = &self.line[place..end];
-            self.at = end;
+        let part = if self.due {
+            self.at = field_end(self.line, place);
             self.due = false;
-            return Placed {
-                part: Part::Field(field),
-                place,
-            };
-        }
-        if place < self.line.len() {
-            self.at = place + 1;
+            Part::Field(&self.line[place..self.at])
+        } else if place < self.line.len() {
+            self.at += 1;
             self.due = true;
-            return Placed {
-                part: Part::Comma,
-                place,
-            };
-        }
-        Placed {
-            part: Part::End,
-            place,
-        }
+            Part::Comma
+        } else {
+            Part::End
+        };
+        Placed { part, place }
     }
 }
 
@@ -79,10 +69,13 @@ fn field_end(line: &[u8], from: usize) -> usize
     ensures end { result ≡ from + field_length line.now from }
     ensures within { (from ≤ result) × (result ≤ length line.now) }
 {
-    for at in from..line.len() {
-        if line[at] == b',' {
-            return at;
-        }
-    }
-    line.len()
+    let rest = &line[from..];
+    from + first_comma(rest).unwrap_or(rest.len())
+}
+
+// The place of the first comma, if there is one.
+fn first_comma(bytes: &[u8]) -> Option<usize>
+    ensures { result ≡ position (λ byte. byte == 44) bytes.now }
+{
+    bytes.iter().position(|byte| *byte == b',')
 }

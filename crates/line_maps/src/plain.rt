@@ -1,44 +1,42 @@
 // The plain scan: a line map that keeps only the source, and goes over it from the front for each answer.
-ghost use Rattle.std.specs.Prelude.{◌≡◌, ◌≤◌, length};
+ghost use Rattle.std.specs.Prelude.{◌≡◌, length};
 ghost use Rattle.lines.specs.Breaks.{seen, breaks, break_ending, line_of};
 
 use crate::map::LineMap;
-use lines::breaks::seen_bytes;
-use lines::cursor::LineBreaks;
 use lines::records::LineBreak;
+use lines::text::Text;
 
 #[derive(Drop)]
 pub struct PlainScan<'a> {
-    source: &'a [u8],
-    ghost short: { length source.now ≤ 4294967295 },
+    source: Text<'a>,
 }
 
 impl<'a> PlainScan<'a> {
     // A map of what a call sees of the source.
     pub fn new(source: &'a [u8]) -> PlainScan<'a>
-        ensures { result.source.now ≡ seen source.now }
+        ensures { result.source.slice.now ≡ seen source.now }
     {
         PlainScan {
-            source: seen_bytes(source),
+            source: Text::new(source),
         }
     }
 }
 
 impl<'a> LineMap for PlainScan<'a> {
-    ghost text = { λ m. m.source.now };
+    ghost text = { λ m. m.source.slice.now };
 
     ghost frontier = { λ _. 0 };
 
     ghost covered = { λ _ _ _ f. f ≡ 0 };
 
-    ghost short = { λ m. m.short };
+    ghost short = { λ m. m.source.short };
 
     fn length(&self) -> u32 {
-        self.source.len() as u32
+        self.source.len()
     }
 
     fn line_index_of(&self, offset: u32) -> Option<u32> {
-        if offset as usize > self.source.len() {
+        if offset > self.length() {
             return None;
         }
         Some(line_of(self.source, offset))
@@ -48,10 +46,8 @@ impl<'a> LineMap for PlainScan<'a> {
         if line == 0 {
             return Some(0);
         }
-        match nth_break(self.source, line - 1) {
-            Some(found) => Some(found.end + 1),
-            None => None,
-        }
+        let found = nth_break(self.source, line - 1)?;
+        Some(found.end + 1)
     }
 
     fn break_ending_line(&mut self, line: u32) -> Option<LineBreak> {
@@ -64,33 +60,15 @@ impl<'a> LineMap for PlainScan<'a> {
 }
 
 // How many breaks of a text end before an offset.
-fn line_of(text: &[u8], offset: u32) -> u32
-    requires { length text.now ≤ 4294967295 }
-    ensures { result ≡ line_of (breaks text.now) offset }
+fn line_of(text: Text, offset: u32) -> u32
+    ensures { result ≡ line_of (breaks text.entry.slice.now) offset }
 {
-    let mut cursor = LineBreaks::new(text);
-    let mut line = 0;
-    while let Some(found) = cursor.next() {
-        if found.end >= offset {
-            break;
-        }
-        line += 1;
-    }
-    line
+    text.breaks().take_while(|found| found.end < offset).count() as u32
 }
 
 // Break number `number` of a text.
-fn nth_break(text: &[u8], number: u32) -> Option<LineBreak>
-    requires { length text.now ≤ 4294967295 }
-    ensures { result ≡ break_ending (breaks text.now) number }
+fn nth_break(text: Text, number: u32) -> Option<LineBreak>
+    ensures { result ≡ break_ending (breaks text.entry.slice.now) number }
 {
-    let mut cursor = LineBreaks::new(text);
-    let mut passed = 0;
-    while let Some(found) = cursor.next() {
-        if passed == number {
-            return Some(found);
-        }
-        passed += 1;
-    }
-    None
+    text.breaks().nth(number as usize)
 }

@@ -1,5 +1,6 @@
 pub mod BreakLaws
 pub mod Finding
+pub mod Giving
 pub mod Lanes16
 pub mod Seeking
 pub mod WidthRule

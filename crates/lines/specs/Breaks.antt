@@ -1,5 +1,5 @@
 -- The breaks of a text, the lines between them, and the places of offsets. Assumes nothing.
-use Rattle.std.specs.Prelude.{ℕ, zero, suc, pred, ◌+◌, ◌-◌, min, Bool, cond, ◌&&◌, List, [], ◌∷◌, length, take, Some, None, Option, nat_le, nat_lt}
+use Rattle.std.specs.Prelude.{ℕ, zero, suc, pred, ◌+◌, ◌-◌, min, Bool, cond, ◌&&◌, List, [], ◌∷◌, length, take, drop, Some, None, Option, nat_le, nat_lt}
 use Rattle.std.specs.Option.{option_map, unwrap_or}
 use Rattle.lines.specs.LineRule.{width}
 use Rattle.lines.specs.declared.records.LineBreak.{LineBreak}
@@ -48,6 +48,10 @@ line_of (b ∷ bs) o = cond (nat_lt b.end o) 1 0 + line_of bs o
 -- the first break that does not end before o
 abbrev pub next_break_lem : List LineBreak → ℕ → Option LineBreak
 next_break_lem bs o = break_ending bs (line_of bs o)
+
+-- the breaks that do not end before o
+abbrev pub breaks_left : List LineBreak → ℕ → List LineBreak
+breaks_left bs o = drop (line_of bs o) bs
 
 -- whether o lies inside a break: past its first byte, and not past its last
 abbrev pub inside : LineBreak → ℕ → Bool

@@ -1,4 +1,5 @@
 pub mod Breaks
+pub mod Cursor
 pub mod Endings
 pub mod Laws
 pub mod LineRule

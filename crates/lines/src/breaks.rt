@@ -5,16 +5,7 @@ ghost use Rattle.lines.specs.LineRule.{width};
 
 use crate::endings::next_ending;
 use crate::records::LineBreak;
-
-// How many bytes of a source a call sees: as many as have a place of 32 bits.
-const MOST_BYTES: usize = 4_294_967_295;
-
-// What a call sees of a source: its first 4,294,967,295 bytes.
-pub fn seen_bytes(source: &[u8]) -> &[u8]
-    ensures { result.now ≡ seen source.now }
-{
-    &source[0..source.len().min(MOST_BYTES)]
-}
+use crate::text::seen_bytes;
 
 // The line rule on bytes: how many bytes the break has that begins at this place, 0 where none does.
 pub fn break_width(text: &[u8], at: usize) -> usize

@@ -1,48 +1,66 @@
 // A cursor over the breaks of a source.
-ghost use Rattle.std.specs.Prelude.{◌≡◌, ◌≤◌, length, IfNone, None};
-ghost use Rattle.std.specs.Option.{option_map, unwrap_or};
-ghost use Rattle.lines.specs.Breaks.{seen, breaks, next_break_lem, past};
+ghost use Rattle.std.specs.Prelude.{◌≡◌, ◌≤◌, length};
+ghost use Rattle.std.specs.Iterator.{item_count};
+ghost use Rattle.lines.specs.Breaks.{seen, breaks};
 
-use crate::breaks::{next_break, seen_bytes};
+use crate::breaks::next_break;
 use crate::records::LineBreak;
+use crate::text::Text;
+use std::iter::FusedIterator;
 
 // It stands at 0, then one past each break that it gave, and at the end once none is left.
 #[derive(Drop)]
 pub struct LineBreaks<'a> {
-    input: &'a [u8],
+    input: Text<'a>,
     at: usize,
-    ghost within: { at ≤ length input.now },
-    ghost short: { length input.now ≤ 4294967295 },
+    ghost within: { at ≤ length input.slice.now },
 }
 
 impl<'a> LineBreaks<'a> {
     // A cursor over what a call sees of the source.
     pub fn new(source: &'a [u8]) -> LineBreaks<'a>
-        ensures input { result.input.now ≡ seen source.now }
+        ensures input { result.input.slice.now ≡ seen source.now }
+        ensures at { result.at ≡ 0 }
+    {
+        Text::new(source).breaks()
+    }
+}
+
+impl<'a> Text<'a> {
+    ghost use Rattle.lines.specs.Cursor.{to_come};
+
+    // A cursor over all of its breaks.
+    pub fn breaks(&self) -> LineBreaks<'a>
+        ensures all { to_come result ≡ breaks self.now.slice.now }
+        ensures input { result.input.slice.now ≡ self.now.slice.now }
         ensures at { result.at ≡ 0 }
     {
         LineBreaks {
-            input: seen_bytes(source),
+            input: *self,
             at: 0,
         }
     }
+}
+
+// The items are the breaks that are left.
+impl<'a> Iterator for LineBreaks<'a> {
+    ghost use Rattle.lines.specs.Cursor.{to_come, Gives};
+
+    type Item = LineBreak;
+
+    ghost next_gives = { Gives };
+
+    ghost remaining = { item_count to_come };
 
     // The next break, and the cursor moves past it; none where none is left, and then for ever after.
-    pub fn next(&mut self) -> Option<LineBreak>
-        ensures told { result ≡ next_break_lem (breaks self.old.input.now) self.old.at }
-        ensures stands { self.new.at ≡ unwrap_or (option_map past result) (length self.old.input.now) }
-        ensures over { IfNone result (next_break_lem (breaks self.new.input.now) self.new.at ≡ None) }
-        ensures input { self.new.input.now ≡ self.old.input.now }
-    {
-        match next_break(self.input, self.at) {
-            Some(found) => {
-                self.at = found.next_line_start();
-                Some(found)
-            }
-            None => {
-                self.at = self.input.len();
-                None
-            }
-        }
+    fn next(&mut self) -> Option<LineBreak> {
+        let Some(found) = next_break(self.input.bytes(), self.at) else {
+            self.at = self.input.bytes().len();
+            return None;
+        };
+        self.at = found.next_line_start();
+        Some(found)
     }
 }
+
+impl<'a> FusedIterator for LineBreaks<'a> {}

@@ -7,3 +7,4 @@ pub mod endings;
 pub mod examples;
 pub mod laws;
 pub mod records;
+pub mod text;

@@ -11,4 +11,4 @@ lines_at t k None = []
 lines_at t k (Some s) = lines_from t (drop k (breaks t)) k s
 
 abbrev pub lines_left : Lines → List Line
-lines_left l = lines_at l.text.now l.number l.start
+lines_left l = lines_at l.text.slice.now l.number l.start

@@ -1,21 +1,21 @@
 // The lines of a source, one after the other.
-ghost use Rattle.std.specs.Prelude.{◌≡◌, ◌<◌, ◌≤◌, length, IfSome, Some};
+ghost use Rattle.std.specs.Prelude.{◌≡◌, ◌<◌, length, IfSome, Some};
 ghost use Rattle.std.proofs.Props.{props};
 ghost use Rattle.lines.specs.Breaks.{breaks, line_start_lem};
 ghost use Rattle.listing.specs.Table.{ending_of_lem};
 
 use crate::line::{Ending, Line};
-use lines::breaks::{next_break, seen_bytes};
+use lines::breaks::next_break;
 use lines::records::LineBreak;
+use lines::text::Text;
 
 // The next line's number and start; no start once the last line was given.
 #[derive(Drop)]
 pub(crate) struct Lines<'a> {
-    text: &'a [u8],
+    text: Text<'a>,
     number: u32,
     start: Option<u32>,
-    ghost short: { length text.now ≤ 4294967295 },
-    ghost starts: { IfSome start (λ s. line_start_lem (breaks text.now) number ≡ Some s) } by { Prim.hlevel props },
+    ghost starts: { IfSome start (λ s. line_start_lem (breaks text.slice.now) number ≡ Some s) } by { Prim.hlevel props },
 }
 
 impl<'a> Lines<'a> {
@@ -28,7 +28,7 @@ impl<'a> Lines<'a> {
         ensures { lines_left result ≡ lines_of (seen source.now) }
     {
         Lines {
-            text: seen_bytes(source),
+            text: Text::new(source),
             number: 0,
             start: Some(0),
         }
@@ -46,9 +46,10 @@ impl<'a> Iterator for Lines<'a> {
     ghost remaining = { item_count lines_left };
 
     fn next(&mut self) -> Option<Line> {
+        let text = self.text.bytes();
         let number = self.number;
         let start = self.start?;
-        match next_break(self.text, start as usize) {
+        match next_break(text, start as usize) {
             Some(found) => {
                 self.number += 1;
                 self.start = Some(found.next_line_start() as u32);
@@ -56,7 +57,7 @@ impl<'a> Iterator for Lines<'a> {
                     number,
                     start,
                     length: found.start - start,
-                    ending: Some(ending_of(self.text, found)),
+                    ending: Some(ending_of(text, found)),
                 })
             }
             None => {
@@ -64,7 +65,7 @@ impl<'a> Iterator for Lines<'a> {
                 Some(Line {
                     number,
                     start,
-                    length: self.text.len() as u32 - start,
+                    length: self.text.len() - start,
                     ending: None,
                 })
             }

@@ -5,7 +5,7 @@ ghost use Rattle.listing.specs.Table.{table_text};
 
 use crate::split::Lines;
 use crate::tally::{Closing, Tally};
-use lines::breaks::seen_bytes;
+use lines::text::seen_bytes;
 use std::alloc::{AllocError, Global};
 use std::fmt::Write;
 

@@ -15,7 +15,7 @@ mod tests {
 
     const SCALE: &[u8] = b"Do\r\nRe\rMi\nFa";
 
-    fn ask(offset: u32, length: u32, before: u32, after: u32) -> Call {
+    fn ask(offset: u32, length: u32, before: u32, after: u32) -> Call<'static> {
         Call::Read(
             SourceSpan::from((offset, length)),
             Context { before, after },
@@ -59,7 +59,7 @@ mod tests {
             Told::Located(None),
         ];
         let mut told = [Told::Nothing; 10];
-        assert_eq!(rt; run(map, &calls, &mut told), 10);
+        assert_eq!(rt; run(map, &mut [], &calls, &mut told), 10);
         assert_eq!(rt; told, expected);
     }
 
@@ -87,8 +87,8 @@ mod tests {
         let mut map = PlainScan::new(SCALE);
         let calls = [Call::Locate(0), Call::Locate(1)];
         let mut told = [Told::Nothing; 1];
-        assert_eq!(rt; run(&mut map, &calls, &mut told), 1);
+        assert_eq!(rt; run(&mut map, &mut [], &calls, &mut told), 1);
         assert_eq!(rt; told, [Told::Located(Some(Place { line: 0, column: 0 }))]);
-        assert_eq!(rt; run(&mut map, &[], &mut told), 0);
+        assert_eq!(rt; run(&mut map, &mut [], &[], &mut told), 0);
     }
 }

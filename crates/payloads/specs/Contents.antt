@@ -4,7 +4,4 @@ use Rattle.payloads.specs.declared.contents.SpanContents.{SpanContents}
 
 -- the payload: the numbers of its window, and its bytes
 abbrev pub shown : SpanContents → Payload
-shown p = record {
-  numbers = record { start = p.extent.offset; length = p.extent.length; line = p.start_line; column = p.start_column; line_count = p.line_count };
-  bytes = p.bytes.now;
-}
+shown p = record { numbers = p.numbers; bytes = p.bytes.now }

@@ -9,27 +9,27 @@ ghost use Rattle.payloads.specs.Readings.{reading};
 
 use crate::contents::{SpanContents, contents};
 use crate::walk::Walk;
-use lines::breaks::{break_width, seen_bytes};
+use lines::breaks::break_width;
 use lines::records::{Context, SourceSpan, Window};
+use lines::text::Text;
 
 // One reading to be made: a source, a span and a context. It keeps no line starts, so it goes over the source again
 // where it has to find the first line of its window.
 #[derive(Drop)]
 pub struct SpanReader<'a> {
-    input: &'a [u8],
+    input: Text<'a>,
     span: SourceSpan,
     context: Context,
-    ghost short: { length input.now ≤ 4294967295 },
 }
 
 impl<'a> SpanReader<'a> {
     pub fn new(source: &'a [u8], span: SourceSpan, context: Context) -> SpanReader<'a>
-        ensures input { result.input.now ≡ seen source.now }
+        ensures input { result.input.slice.now ≡ seen source.now }
         ensures span { result.span ≡ span }
         ensures context { result.context ≡ context }
     {
         SpanReader {
-            input: seen_bytes(source),
+            input: Text::new(source),
             span,
             context,
         }
@@ -37,11 +37,38 @@ impl<'a> SpanReader<'a> {
 
     // The payload of the span's window, or none where there is no window. It uses the reader up.
     pub fn read(self) -> Option<SpanContents<'a>>
-        ensures { option_map shown result ≡ reading self.entry.input.now self.entry.span self.entry.context }
+        ensures { option_map shown result ≡ reading self.entry.input.slice.now self.entry.span self.entry.context }
     {
-        let input = self.input;
-        let window = window_of(input, self.span, self.context)?;
-        contents(input, window)
+        let window = self.window()?;
+        contents(self.input.bytes(), window)
+    }
+
+    // The window of the span and its context.
+    fn window(&self) -> Option<Window>
+        ensures { result ≡ the_window self.now.input.slice.now self.now.span self.now.context }
+    {
+        let SpanReader {
+            input,
+            span,
+            context,
+        } = self;
+        let offset = span.offset();
+        let end = offset as u64 + span.len() as u64;
+        let length = input.len();
+        if end > length as u64 + 1 || (context.before == 0 && offset > length) {
+            return None;
+        }
+        let mut walk = Walk::new(*input);
+        walk.to(offset);
+        let first = open(&walk, offset, context.before);
+        close(&mut walk, end, context.after);
+        Some(Window {
+            start: first.start,
+            length: walk.at - first.start,
+            line: first.line,
+            column: first.column,
+            line_count: walk.line,
+        })
     }
 }
 
@@ -60,33 +87,6 @@ pub fn fresh_reading<'a>(
     SpanReader::new(source, span, context).read()
 }
 
-// The window of a span and its context.
-fn window_of(text: &[u8], span: SourceSpan, context: Context) -> Option<Window>
-    requires { length text.now ≤ 4294967295 }
-    ensures { result ≡ the_window text.now span context }
-{
-    let length = text.len() as u64;
-    let offset = span.offset();
-    let end = offset as u64 + span.len() as u64;
-    if end > length + 1 {
-        return None;
-    }
-    if context.before == 0 && offset as u64 > length {
-        return None;
-    }
-    let mut walk = Walk::new(text);
-    walk.to(offset as usize);
-    let first = open(&walk, offset, context.before);
-    close(&mut walk, end, context.after);
-    Some(Window {
-        start: first.start,
-        length: walk.at as u32 - first.start,
-        line: first.line,
-        column: first.column,
-        line_count: walk.line,
-    })
-}
-
 // Where a window starts, with its line and column.
 #[derive(Clone, Copy)]
 struct Opening {
@@ -97,11 +97,11 @@ struct Opening {
 
 // The opening of the window of a span at this offset, from a walk that has come to it.
 fn open(walk: &Walk, offset: u32, before: u32) -> Opening
-    requires at { walk.now.at ≡ min offset (length walk.now.text.now) }
-    requires within { before ≡ 0 → offset ≤ length walk.now.text.now }
-    ensures start { result.start ≡ window_start (breaks walk.now.text.now) offset before }
-    ensures line { result.line ≡ window_line (breaks walk.now.text.now) offset before }
-    ensures column { result.column ≡ column_of (breaks walk.now.text.now) (window_start (breaks walk.now.text.now) offset before) }
+    requires at { walk.now.at ≡ min offset (length walk.now.text.slice.now) }
+    requires within { before ≡ 0 → offset ≤ length walk.now.text.slice.now }
+    ensures start { result.start ≡ window_start (breaks walk.now.text.slice.now) offset before }
+    ensures line { result.line ≡ window_line (breaks walk.now.text.slice.now) offset before }
+    ensures column { result.column ≡ column_of (breaks walk.now.text.slice.now) (window_start (breaks walk.now.text.slice.now) offset before) }
     ensures upto { result.start ≤ walk.now.at }
 {
     if before == 0 {
@@ -120,23 +120,22 @@ fn open(walk: &Walk, offset: u32, before: u32) -> Opening
 }
 
 // The start of a line, found from the front; the length where there is no such line.
-fn line_start(text: &[u8], line: u32) -> u32
-    requires { length text.now ≤ 4294967295 }
-    ensures { result ≡ unwrap_or (line_start_lem (breaks text.now) line) (length text.now) }
+fn line_start(text: Text, line: u32) -> u32
+    ensures { result ≡ unwrap_or (line_start_lem (breaks text.entry.slice.now) line) (length text.entry.slice.now) }
 {
     if line == 0 {
         return 0;
     }
     let mut walk = Walk::new(text);
     walk.to_line(line as u64);
-    walk.at as u32
+    walk.at
 }
 
 // Goes on to the end of the window of a span that ends before `end`.
 fn close(walk: &mut Walk, end: u64, after: u32)
     requires { walk.old.at ≤ end }
-    ensures text { walk.new.text.now ≡ walk.old.text.now }
-    ensures at { walk.new.at ≡ window_end_lem (length walk.old.text.now) (breaks walk.old.text.now) end after }
+    ensures text { walk.new.text.slice.now ≡ walk.old.text.slice.now }
+    ensures at { walk.new.at ≡ window_end_lem (length walk.old.text.slice.now) (breaks walk.old.text.slice.now) end after }
     ensures onward { walk.old.at ≤ walk.new.at }
 {
     let length = walk.text.len();
@@ -144,8 +143,8 @@ fn close(walk: &mut Walk, end: u64, after: u32)
         walk.to(length);
         return;
     }
-    let cut = cut_after(walk.text, end as usize);
-    walk.to(cut);
+    let cut = cut_after(walk.text.bytes(), end as usize);
+    walk.to(cut as u32);
     if after > 0 {
         let line = walk.line as u64 + after as u64 + 1;
         walk.to_line(line);

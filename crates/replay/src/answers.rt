@@ -6,7 +6,6 @@ use call_runs::calls::{Call, Told};
 use call_runs::run::run;
 use line_maps::plain::PlainScan;
 use lines::records::{Place, Window};
-use payloads::contents::SpanContents;
 use payloads::reader::fresh_reading;
 use std::alloc::Global;
 
@@ -62,7 +61,7 @@ impl Answers {
 // A reading agrees if the fresh reading and the read over a line map do.
 fn reading_agrees(source: &[u8], query: Query, answer: Answer<Window>) -> bool {
     let payload = fresh_reading(source, query.span, query.context);
-    let window = payload.map(|payload| window_of(&payload));
+    let window = payload.map(|payload| payload.window());
     answer == Some(window)
         && ask(source, Call::Read(query.span, query.context)) == Told::Shown(window)
         && payload.is_none_or(|payload| payload.data().len() == payload.span().len() as usize)
@@ -84,18 +83,6 @@ fn look_up_agrees(source: &[u8], query: Query, at: u32, answer: Answer<Place>) -
 fn ask(source: &[u8], call: Call) -> Told {
     let mut map = PlainScan::new(source);
     let mut told = [Told::Nothing; 1];
-    let _ = run(&mut map, &[call], &mut told);
+    let _ = run(&mut map, &mut [], &[call], &mut told);
     told[0]
-}
-
-// The window of a payload.
-fn window_of(payload: &SpanContents) -> Window {
-    let span = payload.span();
-    Window {
-        start: span.offset(),
-        length: span.len(),
-        line: payload.line(),
-        column: payload.column(),
-        line_count: payload.line_count(),
-    }
 }

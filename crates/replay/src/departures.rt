@@ -27,13 +27,5 @@ pub fn departure_of(source: &[u8], query: Query) -> Option<Departure> {
 
 // Whether a break of the source starts at this place or later.
 fn starts_a_break(source: &[u8], place: u64) -> bool {
-    let mut cursor = LineBreaks::new(source);
-    for _ in 0..source.len() {
-        match cursor.next() {
-            Some(found) if found.start as u64 >= place => return true,
-            Some(_) => {}
-            None => return false,
-        }
-    }
-    false
+    LineBreaks::new(source).any(|found| found.start as u64 >= place)
 }

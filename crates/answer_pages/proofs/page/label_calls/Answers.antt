@@ -14,7 +14,7 @@ short input t is = omega (arith, ap length is, few_seen input)
 
 pub loop-found-init : goal.loop-found-init
 loop-found-init c = (
-  subst (Counted c.seen_bytes-text.result.now c.new-cursor.result.input.now c.new-cursor.result.at) (sym c.new-calls.ensures.len)
+  subst (Counted c.seen_bytes-text.result.now c.new-cursor.result.input.slice.now c.new-cursor.result.at) (sym c.new-calls.ensures.len)
       (counted_first c.seen_bytes-text.result.now _ _ (c.new-cursor.ensures.input ∙ sym c.seen_bytes-text.ensures) c.new-cursor.ensures.at),
   subst (λ n. Asking c.seen_bytes-text.result.now (map asked_by (vec_items c.new-calls.result)) n 0) (sym c.new-calls.ensures.len)
       (subst (λ l. Asking c.seen_bytes-text.result.now (map asked_by l) 0 0) (sym c.new-calls.ensures.items) (asking_first c.seen_bytes-text.result.now)),
@@ -23,52 +23,55 @@ loop-found-init c = (
 
 -- at a break
 here : (c : In-Some) → break_ending (breaks c.seen_bytes-text.result.now) (vec_len c.loop-found.calls) ≡ Some c.in-Some.found
-here c = is_break c.loop-found.invariant.0 c.in-Some.found c.in-Some.ensures.told
+here c = is_break c.loop-found.invariant.0 c.in-Some.found c.in-Some.ensures.steps.told
 
 starts : (c : In-Some) → c.loop-found.start ≤ c.in-Some.found.start
 starts c = from c.loop-found.invariant.1 c.in-Some.found (here c)
 
 ends : (c : In-Some) → c.in-Some.found.start < length c.seen_bytes-text.result.now
-ends c = inside c.loop-found.invariant.0 c.in-Some.found c.in-Some.ensures.told
+ends c = inside c.loop-found.invariant.0 c.in-Some.found c.in-Some.ensures.steps.told
 
 few : (c : In-Some) → vec_len c.loop-found.calls + 1 ≤ length c.seen_bytes-text.result.now
-few c = few_lines c.loop-found.invariant.0 c.in-Some.found c.in-Some.ensures.told
+few c = few_lines c.loop-found.invariant.0 c.in-Some.found c.in-Some.ensures.steps.told
 
 pub push_call-requires : goal.push_call-requires
-push_call-requires c =
-    let at = (goal.at.push_call-requires c).In-Some in
-    record { few = omega (arith, few at, short c.args.input.now _ c.seen_bytes-text.ensures); start = starts at; end = omega (arith, ends at) }
+push_call-requires c = omega (arith, few (goal.at.push_call-requires c).In-Some, short c.args.input.now _ c.seen_bytes-text.ensures)
+
+pub slice_bounds-push_call-count : goal.slice_bounds-push_call-count
+slice_bounds-push_call-count c = starts (goal.at.slice_bounds-push_call-count c).In-Some
+
+pub slice_bounds-push_call-start : goal.slice_bounds-push_call-start
+slice_bounds-push_call-start c = starts (goal.at.slice_bounds-push_call-start c).In-Some
+
+pub slice_bounds-push_call-end : goal.slice_bounds-push_call-end
+slice_bounds-push_call-end c = omega (arith, ends (goal.at.slice_bounds-push_call-end c).In-Some)
 
 pub loop-found-smaller : goal.loop-found-smaller
 loop-found-smaller c =
-    let on = moves c.loop-found.invariant.0 c.in-Some.found c.in-Some.ensures.told in
-    omega (arith, c.in-Some.ensures.stands, on.0, on.1)
+    let on = moves c.loop-found.invariant.0 c.in-Some.found c.in-Some.ensures.steps.told in
+    omega (arith, c.in-Some.ensures.steps.stands, on.0, on.1)
 
 pub loop-found-preserved : goal.loop-found-preserved
 loop-found-preserved c =
     let at = (goal.at.loop-found-preserved c).In-Some in
     let pushed = c.in_ok-push_call.ensures in (
-      subst (Counted c.seen_bytes-text.result.now c.next.new.self.input.now c.next.new.self.at) (sym pushed.1)
-          (counted_more c.loop-found.invariant.0 c.in-Some.found c.in-Some.ensures.told _ _ c.in-Some.ensures.input c.in-Some.ensures.stands),
+      subst (Counted c.seen_bytes-text.result.now c.next.new.self.input.slice.now c.next.new.self.at) (sym pushed.1)
+          (counted_more c.loop-found.invariant.0 c.in-Some.found c.in-Some.ensures.steps.told _ _ c.in-Some.ensures.steps.input c.in-Some.ensures.steps.stands),
       subst (λ n. Asking c.seen_bytes-text.result.now (map asked_by (vec_items c.push_call.new.calls)) n c.next_line_start-start.result) (sym pushed.1)
           (asking_more c.loop-found.invariant.1 c.in-Some.found (here at) _ _ refl pushed.0 _ c.next_line_start-start.ensures),
-      c.in-Some.ensures.stands ∙ sym c.next_line_start-start.ensures,
+      c.in-Some.ensures.steps.stands ∙ sym c.next_line_start-start.ensures,
     )
 
 -- at the end
 pub push_call-requires-then-start-text : goal.push_call-requires-then-start-text
-push_call-requires-then-start-text c = record {
-  few = omega (arith, lines_fit c.loop-found.invariant.0, short c.args.input.now _ c.seen_bytes-text.ensures);
-  start = omega (arith, c.if-start-text.true);
-  end = omega arith;
-}
+push_call-requires-then-start-text c = omega (arith, lines_fit c.loop-found.invariant.0, short c.args.input.now _ c.seen_bytes-text.ensures)
 
 pub returns : goal.returns
 returns c =
     let t = c.seen_bytes-text.result.now in
     let whole = short c.args.input.now t c.seen_bytes-text.ensures in
     let count = lines_fit c.loop-found.invariant.0 in
-    let none = no_break c.loop-found.invariant.0 c.in_default.ensures.told in
+    let none = no_break c.loop-found.invariant.0 c.in_default.ensures.steps.told in
     let all = ap (λ t. slots_from 0 (labels_in t)) c.seen_bytes-text.ensures in
     elim c.if-start-text.branch [
       | then-start-text+in_ok-push_call-2 w ↦ (

@@ -6,7 +6,7 @@ use Rattle.answer_pages.proofs.page.label_calls.Given as goal
 
 abbrev pub invariant-loop-found : goal.invariant-loop-found
 invariant-loop-found l =
-    Counted l.text l.cursor.input.now l.cursor.at (vec_len l.calls)
+    Counted l.text l.cursor.input.slice.now l.cursor.at (vec_len l.calls)
     × Asking l.text (map asked_by (vec_items l.calls)) (vec_len l.calls) l.start
     × (l.cursor.at ≡ l.start)
 

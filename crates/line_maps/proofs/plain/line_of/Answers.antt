@@ -1,28 +1,31 @@
-use Rattle.std.proofs.Common.{◌∙◌, arith}
-use Rattle.lines.proofs.Finding.{seen_whole}
-use Rattle.line_maps.proofs.Counting.{counted_first, counted_more, moves, few_lines, ends_before, ends_later, all_lines}
+use Rattle.std.proofs.Common.{rules, ◌≡◌, nat_lt, length, inl, ap, ◌∙◌, arith}
+use Rattle.std.specs.List.{prefix_len}
+use Rattle.lines.specs.Breaks.{breaks, line_of}
+use Rattle.lines.specs.Cursor.{to_come}
+use Rattle.lines.proofs.BreakLaws.{few}
+use Rattle.lines.proofs.Giving.{count_while, ended_in_front}
+use Rattle.payloads.proofs.Passing.{rising}
+use Rattle.payloads.proofs.Walking.{line_few}
 use Rattle.line_maps.proofs.plain.line_of.Goals as goal
 
-pub loop-found-init : goal.loop-found-init
-loop-found-init c = (counted_first c.args.text.now _ _ (c.new-cursor.ensures.input ∙ seen_whole c.args.text.now c.requires) c.new-cursor.ensures.at, omega arith)
+pub count-requires-clause-fits : goal.count-requires-clause-fits
+count-requires-clause-fits c =
+    let t = c.args.text.slice.now in
+    let all : to_come c.take_while.result.iter ≡ breaks t = ap to_come c.take_while.ensures.source ∙ c.breaks.ensures.all in
+    inl (omega (arith, ap length all, few 0 (breaks t) (length t) (rising t), c.args.text.short))
 
-pub overflow_add-line : goal.overflow_add-line
-overflow_add-line c = omega (arith, few_lines c.loop-found.invariant.0 c.in-Some.found c.in-Some.ensures.told, c.requires)
+is : (c : goal.After-count) → c.count.result ≡ line_of (breaks c.args.text.slice.now) c.args.offset
+is c =
+    let t = c.args.text.slice.now in
+    count_while _ (λ b. nat_lt b.end c.args.offset) _ c.take_while.result c.count.result c.count.ensures.ran c.take_while.ensures.closure c.take_while.ensures.done (search rules)
+    ∙ ap (λ cursor. prefix_len (λ b. nat_lt b.end c.args.offset) (to_come cursor)) c.take_while.ensures.source
+    ∙ ap (prefix_len (λ b. nat_lt b.end c.args.offset)) c.breaks.ensures.all
+    ∙ ended_in_front 0 (breaks t) (length t) (rising t) c.args.offset
 
-pub loop-found-smaller : goal.loop-found-smaller
-loop-found-smaller c =
-    let on = moves c.loop-found.invariant.0 c.in-Some.found c.in-Some.ensures.told in
-    omega (arith, c.in-Some.ensures.stands, on.0, on.1)
+pub overflow_cast-result : goal.overflow_cast-result
+overflow_cast-result c =
+    let t = c.args.text.slice.now in
+    omega (arith, is c, line_few (breaks t) c.args.offset, few 0 (breaks t) (length t) (rising t), c.args.text.short)
 
-pub loop-found-preserved : goal.loop-found-preserved
-loop-found-preserved c =
-    let told = c.in-Some.ensures.told in (
-      counted_more c.loop-found.invariant.0 c.in-Some.found told _ _ c.in-Some.ensures.input c.in-Some.ensures.stands,
-      ends_before c.loop-found.invariant.0 c.in-Some.found told c.args.offset c.if-found-offset.false,
-    )
-
-pub returns-then-found-offset : goal.returns-then-found-offset
-returns-then-found-offset c = omega (arith, c.loop-found.invariant.1, ends_later c.loop-found.invariant.0 c.in-Some.found c.in-Some.ensures.told c.args.offset c.if-found-offset.true)
-
-pub returns-in_default : goal.returns-in_default
-returns-in_default c = omega (arith, c.loop-found.invariant.1, all_lines c.loop-found.invariant.0 c.in_default.ensures.told c.args.offset)
+pub returns : goal.returns
+returns c = is c

@@ -7,7 +7,7 @@ use Rattle.payloads.proofs.reader.open.Goals as goal
 pub returns : goal.returns
 returns c =
     let walk = c.args.walk.now in
-    let t = walk.text.now in
+    let t = walk.text.slice.now in
     let line : c.saturating_sub-line.result ≡ window_line (breaks t) c.args.offset c.args.before =
     c.saturating_sub-line.ensures ∙ ap (λ k. k - c.args.before) (walk.line_is ∙ ap (line_of (breaks t)) c.requires.at ∙ line_min t c.args.offset) in
     record {

@@ -5,7 +5,6 @@ use Rattle.payloads.proofs.walk.Walk.new.Goals as goal
 pub invariant_of-result : goal.invariant_of-result
 invariant_of-result c = record {
   within = omega arith;
-  short = c.requires;
-  line_is = sym (line_first c.args.text.now);
-  column_is = sym (column_first c.args.text.now);
+  line_is = sym (line_first c.args.text.slice.now);
+  column_is = sym (column_first c.args.text.slice.now);
 }

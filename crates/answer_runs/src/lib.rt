@@ -1,5 +1,0 @@
-// Runs of calls on a line map, and the law that holds of them.
-#![tactic(auto)]
-
-pub mod calls;
-pub mod run;
