@@ -11,6 +11,9 @@ pub enum Departure {
     EmptyAtZero,
 }
 
+// How an answer compares: it agrees, or it differs, by a departure or otherwise.
+pub type Outcome = Result<(), Option<Departure>>;
+
 pub fn departure_of(source: &[u8], query: Query) -> Option<Departure> {
     let Query { span, context } = query;
     if span.offset() == 0 && span.is_empty() {

@@ -1,14 +1,14 @@
 // Replays a fixed list of the original's answers from standard input and says what agrees and what differs as intended.
 #![tactic(auto)]
 
-mod answers;
 mod departures;
+mod list;
 mod rows;
 mod tally;
 
-use answers::Answers;
 use anyhow::bail;
 use exits::exit_code;
+use list::List;
 use std::io::{BufRead, BufReader};
 use std::process::ExitCode;
 
@@ -18,15 +18,15 @@ fn main(rt: HostRuntime) -> ExitCode {
 
 fn replay(rt: &HostRuntime) -> anyhow::Result<()> {
     let heap = rt.alloc();
-    let mut answers = Answers::new(heap);
+    let mut list = List::new(heap);
     for row in BufReader::new(heap, rt.stdin())?.lines(heap) {
         let row = row?;
-        if answers.replay(row.as_str())? == Err(None) {
+        if list.replay(row.as_str())? == Err(None) {
             eprintln!(rt; "replay: differs: {row}")?;
         }
     }
-    rt.println(answers.tally())?;
-    if answers.tally().otherwise > 0 {
+    rt.println(list.tally())?;
+    if list.tally().otherwise > 0 {
         bail!("an answer differs otherwise than intended");
     }
     Ok(())

@@ -24,7 +24,7 @@ pub struct Query {
     pub context: Context,
 }
 
-// What the original answered; nothing where the row has too few numbers or too many.
+// What the original answered, which may be none; nothing where the row's numbers are no answer.
 pub type Answer<T> = Option<Option<T>>;
 
 impl Row {

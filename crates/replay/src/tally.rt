@@ -1,5 +1,5 @@
 // How many answers agree, and how many differ in which way.
-use crate::departures::Departure;
+use crate::departures::{Departure, Outcome};
 use std::fmt;
 
 #[derive(Clone, Copy, Default)]
@@ -13,8 +13,8 @@ pub struct Tally {
 }
 
 impl Tally {
-    // One answer more: whether it agrees, and else the departure that its query falls under, if any.
-    pub fn count(&mut self, outcome: Result<(), Option<Departure>>) {
+    // One answer more.
+    pub fn count(&mut self, outcome: Outcome) {
         let place = match outcome {
             Ok(()) => &mut self.agree,
             Err(Some(Departure::Column)) => &mut self.column,

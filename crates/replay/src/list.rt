@@ -1,5 +1,5 @@
-// The original's answers, held against this repository's.
-use crate::departures::{Departure, departure_of};
+// The list of the original's answers, held against this repository's.
+use crate::departures::{Outcome, departure_of};
 use crate::rows::{Answer, Query, Row};
 use crate::tally::Tally;
 use call_runs::calls::{Call, Told};
@@ -9,17 +9,17 @@ use lines::records::{Place, Window};
 use payloads::reader::fresh_reading;
 use std::alloc::Global;
 
-// The list at one of its rows, with the source that the rows before it named.
+// The list at one of its rows: the source that the rows before it named, and how their answers compare.
 #[derive(Drop)]
-pub struct Answers {
+pub struct List {
     heap: Global,
     source: Vec<u8>,
     tally: Tally,
 }
 
-impl Answers {
-    pub fn new(heap: Global) -> Answers {
-        Answers {
+impl List {
+    pub fn new(heap: Global) -> List {
+        List {
             heap,
             source: Vec::new(heap),
             tally: Tally::default(),
@@ -30,8 +30,8 @@ impl Answers {
         self.tally
     }
 
-    // Whether the row's answer agrees, if it has one, and else how the original is known to depart there.
-    pub fn replay(&mut self, row: &str) -> anyhow::Result<Result<(), Option<Departure>>> {
+    // How the row's answer compares; a row without one agrees.
+    pub fn replay(&mut self, row: &str) -> anyhow::Result<Outcome> {
         let source = self.source.as_slice();
         let (agrees, query) = match Row::parse(self.heap, row)? {
             Row::Comment => return Ok(Ok(())),
