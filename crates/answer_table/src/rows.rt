@@ -3,14 +3,13 @@
 // `source HEX` names the source of the rows after it. `answer LENGTH HEX` asks for the answer to a label line, and
 // `fault LENGTH NUMBER LAYER FIELD PLACE` for the line of a fault, in a buffer of that length. A row that begins with
 // `#` is a comment. The bytes of a source and of a line are in hexadecimal.
-ghost use Rattle.std.specs.Prelude.{◌≤◌, IfOk};
-
-use crate::hex::{bytes_of, push_bytes};
 use answers::answer::{answer, write_fault};
-use anyhow::anyhow;
+use anyhow::{anyhow, bail};
 use line_maps::plain::PlainScan;
 use lines::records::Fault;
-use std::alloc::Global;
+use lower_hex::{HexError, decode};
+use std::alloc::{AllocError, Global};
+use std::fmt::Write;
 
 // The longest buffer that a row may ask for.
 const LONGEST: usize = 60;
@@ -38,34 +37,38 @@ impl Table {
         if row.starts_with("#") {
             return Ok(None);
         }
-        let mut words = [""; 6];
-        let mut count = 0;
-        for word in row.split(' ') {
-            if count >= 6 {
-                return Err(anyhow!("a row has more than six words"));
-            }
-            words[count] = word;
-            count += 1;
-        }
-        match (words[0], count) {
-            ("source", 1..=2) => {
-                self.source = bytes_of(self.heap, words[1])?;
-                Ok(None)
-            }
-            ("answer", 2..=3) => Ok(Some(self.answered(words[1], words[2])?)),
-            ("fault", 6) => Ok(Some(self.fault_written(words)?)),
-            _ => Err(anyhow!("a row is no source, answer or fault")),
+        let words: Vec<&str> = row.split(' ').take(7).collect(self.heap)?;
+        match words.as_slice() {
+            ["source"] => self.take_source(""),
+            ["source", hex] => self.take_source(hex),
+            ["answer", length] => self.answered(length, ""),
+            ["answer", length, line] => self.answered(length, line),
+            ["fault", length, number, layer, field, place] => self.fault_written(
+                buffer_of(self.heap, length)?,
+                Fault {
+                    number: number.parse()?,
+                    layer: layer.parse()?,
+                    field: field.parse()?,
+                    place: place.parse()?,
+                },
+            ),
+            [_, _, _, _, _, _, _, ..] => bail!("a row has more than six words"),
+            _ => bail!("a row is no source, answer or fault"),
         }
     }
 
+    // The source of the rows that follow.
+    fn take_source(&mut self, hex: &str) -> anyhow::Result<Option<String>> {
+        self.source = bytes_of(self.heap, hex)?;
+        Ok(None)
+    }
+
     // What `answer` tells of a line in hexadecimal, and its buffer after the call.
-    fn answered(&self, length: &str, line: &str) -> anyhow::Result<String> {
-        let length = length_of(length)?;
+    fn answered(&self, length: &str, line: &str) -> anyhow::Result<Option<String>> {
+        let mut buffer = buffer_of(self.heap, length)?;
         let line = bytes_of(self.heap, line)?;
         let mut map = PlainScan::new(self.source.as_slice());
-        let mut buffer = [FILL; LONGEST];
-        let out = &mut buffer[0..length];
-        let told = match answer(&mut map, line.as_slice(), out) {
+        let told = match answer(&mut map, line.as_slice(), buffer.as_mut_slice()) {
             Ok(count) => format!(in self.heap; "count {count}")?,
             Err(fault) => {
                 let Fault {
@@ -77,44 +80,44 @@ impl Table {
                 format!(in self.heap; "fault {number},{layer},{field},{place}")?
             }
         };
-        with_buffer(told, out)
+        with_buffer(told, buffer.as_slice())
     }
 
     // What `write_fault` tells, and its buffer after the call.
-    fn fault_written(&self, words: [&str; 6]) -> anyhow::Result<String> {
-        let length = length_of(words[1])?;
-        let fault = Fault {
-            number: words[2].parse::<u32>()?,
-            layer: words[3].parse::<u32>()?,
-            field: words[4].parse::<u32>()?,
-            place: words[5].parse::<u32>()?,
-        };
-        let mut buffer = [FILL; LONGEST];
-        let out = &mut buffer[0..length];
-        let told = match write_fault(fault, out) {
+    fn fault_written(&self, mut buffer: Vec<u8>, fault: Fault) -> anyhow::Result<Option<String>> {
+        let told = match write_fault(fault, buffer.as_mut_slice()) {
             Some(count) => format!(in self.heap; "count {count}")?,
             None => String::from_str(self.heap, "none")?,
         };
-        with_buffer(told, out)
+        with_buffer(told, buffer.as_slice())
     }
 }
 
-// The length of a buffer.
-fn length_of(word: &str) -> anyhow::Result<usize>
-    ensures { IfOk result (λ n. n ≤ 60) }
-{
-    let length = word.parse::<usize>()?;
+// A buffer of the length that a row asks for, before the call.
+fn buffer_of(heap: Global, length: &str) -> anyhow::Result<Vec<u8>> {
+    let length = length.parse()?;
     if length > LONGEST {
-        return Err(anyhow!("a row has a buffer of more than 60 bytes"));
+        bail!("a row has a buffer of more than 60 bytes");
     }
-    Ok(length)
+    Ok(vec![in heap; FILL; length]?)
+}
+
+// The bytes of a source or a line.
+fn bytes_of(heap: Global, hex: &str) -> anyhow::Result<Vec<u8>> {
+    decode(heap, hex.as_bytes()).map_err(|error| match error {
+        HexError::HalfByte => anyhow!("a row has half a byte"),
+        HexError::NoDigit => anyhow!("a row has a digit that is not hexadecimal"),
+        HexError::OutOfMemory => AllocError.into(),
+    })
 }
 
 // A text with the bytes of a buffer after it, if there are any.
-fn with_buffer(mut text: String, buffer: &[u8]) -> anyhow::Result<String> {
+fn with_buffer(mut text: String, buffer: &[u8]) -> anyhow::Result<Option<String>> {
     if !buffer.is_empty() {
-        text.push_str(" ")?;
-        push_bytes(&mut text, buffer)?;
+        text.push(' ')?;
     }
-    Ok(text)
+    for byte in buffer {
+        write!(text, "{byte:02x}")?;
+    }
+    Ok(Some(text))
 }

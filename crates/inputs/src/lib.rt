@@ -1,54 +1,62 @@
 // Reading into a buffer of a fixed size.
 #![tactic(auto)]
 
-ghost use Rattle.std.specs.Prelude.{◌≡◌, ◌≤◌, T, length, IfOk};
+ghost use Rattle.std.specs.Prelude.{◌≡◌, IfOk, None};
+ghost use Rattle.inputs.specs.Filling.{Holds, bytes_in_lem};
 
 use std::io::{ErrorKind, Read};
 use std::rt::Files;
 use std::{fs, io};
 
-// How many bytes stand in the buffer, and whether the input held more than fit.
+// What became of an input in a buffer.
 #[derive(Clone, Copy, PartialEq, Eq, Debug)]
-pub struct Filled {
-    pub count: usize,
-    pub cut: bool,
+pub enum Filled {
+    // It has so many bytes, and all of them stand at the buffer's front.
+    Whole(usize),
+    // It has more bytes than the buffer, which is full.
+    Cut,
+}
+
+impl Filled {
+    // The input's bytes in the buffer.
+    pub fn bytes_in(self, buf: &[u8]) -> &[u8]
+        ensures { result.now ≡ bytes_in_lem self buf.now }
+    {
+        match self {
+            Filled::Whole(count) => &buf[..count.min(buf.len())],
+            Filled::Cut => buf,
+        }
+    }
 }
 
 // Reads until the buffer is full or nothing more comes, and then looks for one byte more.
 pub fn fill<R: Read>(from: &mut R, buf: &mut [u8]) -> io::Result<Filled>
-    ensures { IfOk result (λ f. (f.count ≤ length buf.new) × (T f.cut → f.count ≡ length buf.new)) }
+    ensures { IfOk result (Holds buf.new (R.remaining from.old)) }
 {
     let mut count = 0;
     while count < buf.len() {
         let got = from.read(&mut buf[count..])?;
         if got == 0 {
-            return Ok(Filled { count, cut: false });
+            return Ok(Filled::Whole(count));
         }
         count += got;
     }
     let mut next = [0u8; 1];
-    let cut = from.read(&mut next)? > 0;
-    Ok(Filled { count, cut })
+    if from.read(&mut next)? == 0 {
+        Ok(Filled::Whole(count))
+    } else {
+        Ok(Filled::Cut)
+    }
 }
 
 // The same from a file; a missing file counts as empty.
 pub fn fill_from_file<F: Files>(rt: &F, path: &str, buf: &mut [u8]) -> io::Result<Filled>
-    ensures { IfOk result (λ f. (f.count ≤ length buf.new) × (T f.cut → f.count ≡ length buf.new)) }
+    ensures { IfOk result (Holds buf.new None) }
 {
     match fs::open(rt, path) {
-        Ok(file) => {
-            let mut file = file;
-            fill(&mut file, buf)
-        }
-        Err(error) => {
-            if error.kind() == ErrorKind::NotFound {
-                return Ok(Filled {
-                    count: 0,
-                    cut: false,
-                });
-            }
-            Err(error)
-        }
+        Ok(mut file) => fill(&mut file, buf),
+        Err(error) if error.kind() == ErrorKind::NotFound => Ok(Filled::Whole(0)),
+        Err(error) => Err(error),
     }
 }
 
@@ -65,25 +73,13 @@ mod tests {
         let mut small = [0u8; 3];
         assert_eq!(rt;
             fill(&mut b"bytes".as_slice(), &mut roomy)?,
-            Filled {
-                count: 5,
-                cut: false,
-            }
+            Filled::Whole(5)
         );
         assert_eq!(rt;
             fill(&mut b"bytes".as_slice(), &mut exact)?,
-            Filled {
-                count: 5,
-                cut: false,
-            }
+            Filled::Whole(5)
         );
-        assert_eq!(rt;
-            fill(&mut b"bytes".as_slice(), &mut small)?,
-            Filled {
-                count: 3,
-                cut: true,
-            }
-        );
+        assert_eq!(rt; fill(&mut b"bytes".as_slice(), &mut small)?, Filled::Cut);
         assert_eq!(rt; roomy, *b"bytes\0\0\0");
         assert_eq!(rt; small, *b"byt");
         Ok(())
@@ -93,7 +89,7 @@ mod tests {
     fn missing_file_is_empty(rt: HostRuntime) -> Result<(), Fail> {
         let mut buf = [7u8; 2];
         let filled = fill_from_file(&rt, "no/such/file", &mut buf)?;
-        assert!(rt; filled.count == 0 && !filled.cut);
+        assert_eq!(rt; filled, Filled::Whole(0));
         assert_eq!(rt; buf, [7, 7]);
         Ok(())
     }

@@ -2,5 +2,6 @@
 #![tactic(auto)]
 
 pub mod line;
+mod split;
 pub mod table;
 pub mod tally;

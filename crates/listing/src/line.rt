@@ -1,29 +1,27 @@
 // A line of a source, as the line table lists it.
-ghost use Rattle.std.specs.Prelude.{◌≡◌, ◌++◌, IfOk, string_bytes, codes};
-ghost use Rattle.listing.specs.Table.{ending_text, row_text};
+ghost use Rattle.std.specs.Prelude.{Some};
+ghost use Rattle.listing.specs.Table.{ending_text, line_text};
 
-use std::alloc::{AllocError, Global};
+use std::fmt;
 
-// What a line ends with; only the last line of a source ends with nothing.
+// What a line ends with; only the last line of a source has no ending.
 #[derive(Clone, Copy, PartialEq, Eq, Debug)]
 pub enum Ending {
     Lf,
     Cr,
     CrLf,
-    Nothing,
 }
 
-impl Ending {
-    // The word that the table has for it.
-    pub fn text(self) -> &'static str
-        ensures { result.now ≡ ending_text self }
-    {
-        match self {
+// The word that the table has for it.
+impl fmt::Display for Ending {
+    ghost output = { λ ending. Some (ending_text (Some ending)) };
+
+    fn fmt<W: fmt::Write>(&self, f: &mut fmt::Formatter<W>) -> fmt::Result {
+        f.write_str(match self {
             Ending::Lf => "LF",
             Ending::Cr => "CR",
             Ending::CrLf => "CR LF",
-            Ending::Nothing => "none",
-        }
+        })
     }
 }
 
@@ -33,18 +31,24 @@ pub struct Line {
     pub number: u32,
     pub start: u32,
     pub length: u32,
-    pub ending: Ending,
+    pub ending: Option<Ending>,
 }
 
-impl Line {
-    // The line's row in the table.
-    pub fn row(self, heap: Global) -> Result<String, AllocError>
-        ensures { IfOk result (λ s. string_bytes s ≡ row_text self) }
-    {
-        let number = self.number;
-        let start = self.start;
-        let length = self.length;
-        let ending = self.ending.text();
-        format!(in heap; "{number},{start},{length},{ending}\n")
+// The line's row in the table.
+impl fmt::Display for Line {
+    ghost output = { λ line. Some (line_text line) };
+
+    fn fmt<W: fmt::Write>(&self, f: &mut fmt::Formatter<W>) -> fmt::Result {
+        let Line {
+            number,
+            start,
+            length,
+            ending,
+        } = *self;
+        write!(f, "{number},{start},{length},")?;
+        match ending {
+            Some(ending) => write!(f, "{ending}"),
+            None => write!(f, "none"),
+        }
     }
 }

@@ -1,11 +1,11 @@
 // How many lines a table has, and how they end.
-ghost use Rattle.std.specs.Prelude.{◌≡◌, ◌^◌, ◌<◌, [], IfOk, string_bytes};
-ghost use Rattle.listing.specs.Table.{closing_text, counted, tally_of};
+ghost use Rattle.std.specs.Prelude.{◌≡◌, ◌^◌, Some};
+ghost use Rattle.listing.specs.Table.{IsBelow, counted, sentence_text};
 
 use crate::line::Ending;
-use std::alloc::{AllocError, Global};
+use std::fmt;
 
-#[derive(Clone, Copy, PartialEq, Eq, Debug)]
+#[derive(Clone, Copy, Default, PartialEq, Eq, Debug)]
 pub struct Tally {
     pub lines: u64,
     pub lf: u64,
@@ -14,47 +14,42 @@ pub struct Tally {
 }
 
 impl Tally {
-    // The tally of no line.
-    pub fn new() -> Tally
-        ensures { result ≡ tally_of [] }
+    // Counts a line more.
+    pub(crate) fn count(&mut self, ending: Option<Ending>)
+        requires { IsBelow (2 ^ 33) self.old }
+        ensures { self.new ≡ counted self.old ending }
     {
-        Tally {
-            lines: 0,
-            lf: 0,
-            cr: 0,
-            cr_lf: 0,
-        }
-    }
-
-    // The tally with a line more.
-    pub(crate) fn with(self, ending: Ending) -> Tally
-        requires lines { self.lines < 2 ^ 33 }
-        requires lf { self.lf < 2 ^ 33 }
-        requires cr { self.cr < 2 ^ 33 }
-        requires cr_lf { self.cr_lf < 2 ^ 33 }
-        ensures { result ≡ counted self ending }
-    {
-        let mut tally = self;
-        tally.lines += 1;
+        self.lines += 1;
         match ending {
-            Ending::Lf => tally.lf += 1,
-            Ending::Cr => tally.cr += 1,
-            Ending::CrLf => tally.cr_lf += 1,
-            Ending::Nothing => {}
+            Some(Ending::Lf) => self.lf += 1,
+            Some(Ending::Cr) => self.cr += 1,
+            Some(Ending::CrLf) => self.cr_lf += 1,
+            None => {}
         }
-        tally
     }
+}
 
-    // The sentence that closes the table of a source of so many bytes.
-    pub fn closing(self, heap: Global, bytes: usize) -> Result<String, AllocError>
-        ensures { IfOk result (λ s. string_bytes s ≡ closing_text bytes self) }
-    {
-        let lines = self.lines;
-        let lf = self.lf;
-        let cr = self.cr;
-        let cr_lf = self.cr_lf;
-        format!(in heap;
-            "Listed {bytes} bytes as {lines} lines, ended by {lf} LF, {cr} CR and {cr_lf} CR LF.\n"
+// What the table of a source of so many bytes says at its end.
+#[derive(Clone, Copy, PartialEq, Eq, Debug)]
+pub struct Closing {
+    pub bytes: usize,
+    pub tally: Tally,
+}
+
+impl fmt::Display for Closing {
+    ghost output = { λ closing. Some (sentence_text closing.bytes closing.tally) };
+
+    fn fmt<W: fmt::Write>(&self, f: &mut fmt::Formatter<W>) -> fmt::Result {
+        let bytes = self.bytes;
+        let Tally {
+            lines,
+            lf,
+            cr,
+            cr_lf,
+        } = self.tally;
+        write!(
+            f,
+            "Listed {bytes} bytes as {lines} lines, ended by {lf} LF, {cr} CR and {cr_lf} CR LF."
         )
     }
 }

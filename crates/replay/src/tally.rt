@@ -1,8 +1,8 @@
 // How many answers agree, and how many differ in which way.
-use crate::faults::Fault;
+use crate::departures::{Departure, Outcome};
 use std::fmt;
 
-#[derive(Clone, Copy)]
+#[derive(Clone, Copy, Default)]
 pub struct Tally {
     pub reads: u64,
     pub look_ups: u64,
@@ -13,27 +13,13 @@ pub struct Tally {
 }
 
 impl Tally {
-    pub fn new() -> Tally {
-        Tally {
-            reads: 0,
-            look_ups: 0,
-            agree: 0,
-            column: 0,
-            empty_at_0: 0,
-            otherwise: 0,
-        }
-    }
-
-    // One answer more: whether it agrees, and else by the fault that its query falls under.
-    pub fn count(&mut self, agrees: bool, fault: Fault) {
-        let place = if agrees {
-            &mut self.agree
-        } else {
-            match fault {
-                Fault::Column => &mut self.column,
-                Fault::EmptyAtZero => &mut self.empty_at_0,
-                Fault::Unknown => &mut self.otherwise,
-            }
+    // One answer more.
+    pub fn count(&mut self, outcome: Outcome) {
+        let place = match outcome {
+            Ok(()) => &mut self.agree,
+            Err(Some(Departure::Column)) => &mut self.column,
+            Err(Some(Departure::EmptyAtZero)) => &mut self.empty_at_0,
+            Err(None) => &mut self.otherwise,
         };
         *place = place.saturating_add(1);
     }
@@ -51,11 +37,7 @@ impl fmt::Display for Tally {
         } = *self;
         write!(
             f,
-            "Replayed {reads} readings and {look_ups} look-ups: {agree} agree, {column} differ by the column, "
-        )?;
-        write!(
-            f,
-            "{empty_at_0} by the empty span at 0, and {otherwise} otherwise."
+            "Replayed {reads} readings and {look_ups} look-ups: {agree} agree, {column} differ by the column, {empty_at_0} by the empty span at 0, and {otherwise} otherwise."
         )
     }
 }

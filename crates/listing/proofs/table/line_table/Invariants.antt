@@ -1,9 +1,13 @@
-use Rattle.std.proofs.Common.{◌≡◌, ◌-◌, length, string_bytes}
-use Rattle.listing.proofs.Listed.{Going}
+use Rattle.std.proofs.Common.{◌≡◌, ◌++◌, string_bytes}
+use Rattle.std.specs.List.{flat_map}
+use Rattle.lines.specs.Breaks.{seen}
+use Rattle.listing.specs.Table.{row_text, lines_of, tally_of}
+use Rattle.listing.specs.Left.{lines_left}
 use Rattle.listing.proofs.table.line_table.Given as goal
 
-abbrev pub invariant-loop-found : goal.invariant-loop-found
-invariant-loop-found l = (l.cursor.input.slice.now ≡ l.text) × (l.cursor.at ≡ l.start) × Going l.text (string_bytes l.table) l.tally l.start
-
-abbrev pub decreases-loop-found : goal.decreases-loop-found
-decreases-loop-found l = length l.text - l.start
+abbrev pub invariant-loop-line : goal.invariant-loop-line
+invariant-loop-line l = record {
+  all : l.yielded ++ lines_left l.line-iterator ≡ lines_of (seen l.source);
+  rows : string_bytes l.table ≡ flat_map row_text l.yielded;
+  counts : l.tally ≡ tally_of l.yielded;
+}

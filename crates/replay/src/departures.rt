@@ -1,39 +1,34 @@
-// The two faults of the original that the port does not have. A query alone decides under which one it falls.
+// The two ways in which the original's answers depart from the rules. A query alone decides under which one it falls.
+use crate::rows::Query;
 use lines::cursor::LineBreaks;
-use lines::records::{Context, SourceSpan};
 use payloads::reader::fresh_reading;
 
-#[derive(Clone, Copy)]
-pub enum Fault {
+#[derive(Clone, Copy, PartialEq, Eq)]
+pub enum Departure {
     // No lines before, one or more after, and a break that starts after the span: the original gives column 0.
     Column,
     // The empty span at 0: the original takes byte 0 for the byte before it.
     EmptyAtZero,
-    Unknown,
 }
 
-pub fn fault_of(source: &[u8], span: SourceSpan, context: Context) -> Fault {
+// How an answer compares: it agrees, or it differs, by a departure or otherwise.
+pub type Outcome = Result<(), Option<Departure>>;
+
+pub fn departure_of(source: &[u8], query: Query) -> Option<Departure> {
+    let Query { span, context } = query;
     if span.offset() == 0 && span.is_empty() {
-        return Fault::EmptyAtZero;
+        return Some(Departure::EmptyAtZero);
     }
     let shown = context.before == 0
         && context.after > 0
         && fresh_reading(source, span, context).is_some();
     if shown && starts_a_break(source, span.offset() as u64 + span.len() as u64) {
-        return Fault::Column;
+        return Some(Departure::Column);
     }
-    Fault::Unknown
+    None
 }
 
 // Whether a break of the source starts at this place or later.
 fn starts_a_break(source: &[u8], place: u64) -> bool {
-    let mut cursor = LineBreaks::new(source);
-    for _ in 0..source.len() {
-        match cursor.next() {
-            Some(found) if found.start as u64 >= place => return true,
-            Some(_) => {}
-            None => return false,
-        }
-    }
-    false
+    LineBreaks::new(source).any(|found| found.start as u64 >= place)
 }
