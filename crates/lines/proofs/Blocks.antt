@@ -1,5 +1,5 @@
 -- The search for CR and LF block by block. Assumes nothing.
-use Rattle.std.proofs.Common.{◌≡◌, ℕ, zero, suc, ◌+◌, ◌*◌, ◌<◌, ◌≤◌, min, Bool, true, false, cond, not, ◌&&◌, true≢false, nat_lt, List, [], ◌∷◌, length, get_or, take, drop, position, Some, None, sym, refl, ap, ◌∙◌, subst, arith}
+use Rattle.std.proofs.Common.{◌≡◌, ℕ, zero, suc, ◌+◌, ◌-◌, ◌*◌, ◌<◌, ◌≤◌, Bool, true, false, cond, not, ◌&&◌, true≢false, nat_lt, List, [], ◌∷◌, length, get_or, take, drop, position, Some, None, sym, refl, ap, ◌∙◌, subst, arith}
 use Rattle.std.specs.List.{fold, prefix_len, position_or_len}
 use Rattle.std.specs.Simd.{first_chunks}
 use Rattle.std.proofs.lemmas.List.{drop-drop, length-drop, length-take}
@@ -17,17 +17,6 @@ found few p k is = cond_some few p k is
 not_found : (few : Bool) (p : ℕ) → cond few (Some p) None ≡ None → few ≡ false
 not_found true p is = absurd (none-some p (sym is))
 not_found false p is = refl
-
-module _ (t : List ℕ) (i : ℕ) (within : i ≤ length t) where
-  pub hit : (k : ℕ) → position ends_line_lem (drop i t) ≡ Some k → i + k ≡ next_ending_lem t i
-  hit k is =
-      let at = found _ _ k is in
-      omega (arith, at.1, prefix_len-le-length is_plain (drop i t), length-drop i t)
-
-  pub miss : position ends_line_lem (drop i t) ≡ None → length t ≡ next_ending_lem t i
-  miss is =
-      let out = not_found _ (position_or_len ends_line_lem (drop i t)) is in
-      grind (arith, nat_tests, length-drop i t, out)
 
 -- whether a block of 16 bytes holds CR or LF
 abbrev ends_in_16 : List ℕ → Bool
@@ -83,13 +72,29 @@ module _ (t : List ℕ) (i : ℕ) (within : i ≤ length t) (r : List ℕ) (rest
       subst (λ k. prefix_len is_plain r ≡ 16 * k + prefix_len is_plain (get_or blocks k [])) at.1 (subst (λ cs. prefix_len is_plain r ≡ 16 * position_or_len ends_in_16 cs + prefix_len is_plain (get_or cs (position_or_len ends_in_16 cs) [])) (sym cut) inner) in
       omega (arith, here, ap (prefix_len is_plain) rest, prefix_len-le-length is_plain r, ap length rest, length-drop i t)
 
-  pub block_miss : position ends_in_16 blocks ≡ None → next_ending_lem t (i + 16 * m) ≡ next_ending_lem t i
-  block_miss is =
-      let out = not_found _ (position_or_len ends_in_16 blocks) is in
-      let many : length blocks ≡ m = ap length cut ∙ length_chunks m r in
-      let le : m ≤ position_or_len ends_in_16 blocks = grind (arith, nat_tests, many, out) in
-      let same : position_or_len ends_in_16 (first_chunks 16 m r) ≡ position_or_len ends_in_16 blocks = ap (position_or_len ends_in_16) (sym cut) in
-      omega (arith, (searched m r fits).at_end (omega (arith, le, same)), ap (prefix_len is_plain) rest, ap (λ r. prefix_len is_plain (drop (16 * m) r)) rest, ap (prefix_len is_plain) (drop-drop (16 * m) i t))
+  -- none of the blocks does, and so the search goes on in the last bytes
+  module _ (last : List ℕ) (end : last ≡ drop (16 * m) r) (is : position ends_in_16 blocks ≡ None) where
+    at_last : prefix_len is_plain (drop i t) ≡ 16 * m + prefix_len is_plain last
+    at_last =
+        let out = not_found _ (position_or_len ends_in_16 blocks) is in
+        let many : length blocks ≡ m = ap length cut ∙ length_chunks m r in
+        let le : m ≤ position_or_len ends_in_16 blocks = grind (arith, nat_tests, many, out) in
+        let same : position_or_len ends_in_16 (first_chunks 16 m r) ≡ position_or_len ends_in_16 blocks = ap (position_or_len ends_in_16) (sym cut) in
+        omega (arith, (searched m r fits).at_end (omega (arith, le, same)), ap (prefix_len is_plain) rest, ap (prefix_len is_plain) end)
+
+    long : length last + 16 * m ≡ length (drop i t)
+    long = omega (arith, ap length end, length-drop (16 * m) r, fits, ap length rest)
+
+    pub last_hit : (k : ℕ) → position ends_line_lem last ≡ Some k → length t - length last + k ≡ next_ending_lem t i
+    last_hit k has =
+        let at = found _ _ k has in
+        omega (arith, at.1, at_last, long, length-drop i t, prefix_len-le-length is_plain last)
+
+    pub last_miss : position ends_line_lem last ≡ None → length t ≡ next_ending_lem t i
+    last_miss has =
+        let out = not_found _ (position_or_len ends_line_lem last) has in
+        let all : length last ≤ prefix_len is_plain last = grind (arith, nat_tests, out) in
+        omega (arith, all, at_last, long, length-drop i t)
 
 abbrev is_clear_block : List ℕ → Bool
 is_clear_block block = fold (λ clear byte. clear && is_far byte) true block

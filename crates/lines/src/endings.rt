@@ -1,7 +1,7 @@
 // The way to the next CR or LF, which everything that finds breaks goes.
 //
 // Most lines are short, so it looks at 16 bytes at a time first. After 96 bytes without a hit it passes over blocks of
-// 256, whose test the compiler turns into a few vector instructions. A plain loop does the last bytes of the text.
+// 256, whose test the compiler turns into a few vector instructions. The last bytes of the text are looked at one by one.
 ghost use Rattle.std.specs.Prelude.{◌≡◌, ℕ, ◌+◌, ◌<◌, ◌≤◌, min, true, map, length, take, ◌≢◌, slice_index, position, nat_lt, ◌&&◌};
 ghost use Rattle.std.specs.Simd.Lanes.{mask_l};
 ghost use Rattle.std.specs.List.{prefix_len, fold};
@@ -32,15 +32,18 @@ pub fn next_ending(text: &[u8], from: usize) -> usize
     next_by_16(text, skip_blocks(text, near))
 }
 
-// The same, 16 bytes at a time.
+// The same, 16 bytes at a time, and byte by byte in what is left.
 fn next_by_16(text: &[u8], from: usize) -> usize
     requires { from ≤ length text.now }
     ensures { result ≡ next_ending_lem text.now from }
 {
-    let (blocks, _) = text[from..].as_chunks::<16>();
-    match first_block(blocks) {
-        Some(i) => from + 16 * i + plain_front(&blocks[i]),
-        None => next_by_byte(text, from + 16 * blocks.len()),
+    let (blocks, rest) = text[from..].as_chunks::<16>();
+    if let Some(i) = first_block(blocks) {
+        return from + 16 * i + plain_front(&blocks[i]);
+    }
+    match first_ending(rest) {
+        Some(i) => text.len() - rest.len() + i,
+        None => text.len(),
     }
 }
 
@@ -49,17 +52,6 @@ fn first_block(blocks: &[[u8; 16]]) -> Option<usize>
     ensures { result ≡ position (λ block. nat_lt (prefix_len is_plain block) 16) blocks.now }
 {
     blocks.iter().position(|block| plain_front(block) < 16)
-}
-
-// The same as next_ending, byte by byte.
-fn next_by_byte(text: &[u8], from: usize) -> usize
-    requires { from ≤ length text.now }
-    ensures { result ≡ next_ending_lem text.now from }
-{
-    match first_ending(&text[from..]) {
-        Some(plain) => from + plain,
-        None => text.len(),
-    }
 }
 
 // The first CR or LF of some bytes.

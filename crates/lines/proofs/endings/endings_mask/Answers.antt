@@ -1,5 +1,4 @@
-use Rattle.std.proofs.Common.{take, lit≤}
-use Rattle.std.proofs.lemmas.List.{length-take-le}
+use Rattle.std.proofs.Common.{lit≤}
 use Rattle.lines.proofs.Lanes16.{mask_of}
 use Rattle.lines.proofs.endings.endings_mask.Goals as goal
 

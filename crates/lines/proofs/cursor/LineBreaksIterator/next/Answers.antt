@@ -1,5 +1,5 @@
-use Rattle.std.proofs.Common.{◌≡◌, ◌∷◌, length, None, refl, sym, ap, ◌∙◌, arith}
-use Rattle.lines.specs.Breaks.{seen, breaks, next_break_lem, breaks_left, past}
+use Rattle.std.proofs.Common.{◌∷◌, length, None, refl, sym, ap, ◌∙◌, arith}
+use Rattle.lines.specs.Breaks.{seen, breaks, next_break_lem, breaks_left}
 use Rattle.lines.proofs.Finding.{told_whole_lem, ends_within, over}
 use Rattle.lines.proofs.Giving.{gives_next, gives_none, progress}
 use Rattle.lines.proofs.cursor.LineBreaksIterator.next.Goals as goal
