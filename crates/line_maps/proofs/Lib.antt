@@ -1,4 +1,3 @@
-pub mod Counting
 pub mod Nearing
 pub mod Spots
 pub mod WindowRead

@@ -15,7 +15,12 @@ use Rattle.payloads.proofs.Passing.{rising}
 use Rattle.payloads.proofs.Stepping.{ends_pair, from_start, start_le}
 use Rattle.payloads.proofs.Walking.{line_few, no_line}
 use Rattle.payloads.proofs.Whole.{ended_cut}
-use Rattle.line_maps.proofs.Counting.{none_length}
+
+-- with no break k there are at most k
+none_length : (bs : List LineBreak) (k : ℕ) → break_ending bs k ≡ None → length bs ≤ k
+none_length [] k is = omega arith
+none_length (b ∷ bs) zero is = let z : ◌≡◌ {A = ℕ} 0 1 = cc in absurd (omega arith)
+none_length (b ∷ bs) (suc k) is = omega (arith, none_length bs k is)
 
 -- break k starts before e exactly if it is counted at the cut after e
 starts_before : (i : ℕ) (bs : List LineBreak) (n e : ℕ) → Rising i bs n → (k : ℕ) (b : LineBreak) → break_ending bs k ≡ Some b → b.start < e → k < line_of bs (cut_after_lem bs e)
@@ -116,9 +121,6 @@ module _ (t : List ℕ) (e : ℕ) where
 
       pub below : k < length (breaks t)
       below = omega (arith, lie.next_line, line_few (breaks t) (past b))
-
-      pub ends_in : past b ≤ length t
-      ends_in = omega (arith, lie.within)
 
       -- a break of the span
       pub near_span : b.start < e → Near after (k + 1) (max cut (past b)) left

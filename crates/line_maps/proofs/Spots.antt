@@ -55,9 +55,6 @@ index_none t o is = ⊎_elim
     (λ past_end. past_end.1)
     (leb_tells o (length t))
 
-pub place_none : (t : List ℕ) (o : ℕ) → length t < o → place t o ≡ None
-place_none t o out = let no_place : leb o (length t) ≡ false = grind (arith, nat_tests) in ap (λ yes. cond yes (Some (place_of (breaks t) o)) None) no_place
-
 -- a line up to that of an offset has a start
 pub starts_above : (t : List ℕ) (o line : ℕ) → line ≤ line_of (breaks t) o → line_start_lem (breaks t) line ≡ None → ⊥
 starts_above t o line le lacks =

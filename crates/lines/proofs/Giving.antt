@@ -1,5 +1,5 @@
 -- What is left of the breaks after the next one. Assumes nothing.
-use Rattle.std.proofs.Common.{◌≡◌, ℕ, zero, suc, ◌≤◌, nat_lt, Bool, false, List, [], ◌∷◌, length, drop, Some, None, Option, sym, refl, ap, ◌∙◌, arith}
+use Rattle.std.proofs.Common.{◌≡◌, ℕ, zero, suc, ◌+◌, ◌≤◌, nat_lt, Bool, false, List, [], ◌∷◌, length, drop, Some, None, Option, sym, refl, ap, ◌∙◌, arith}
 use Rattle.std.specs.List.{prefix_len, slice_get}
 use Rattle.std.specs.Option.{option_map}
 use Rattle.std.proofs.lemmas.Iterator.{YieldsList, items_from_drains}
@@ -9,7 +9,6 @@ use Rattle.std.proofs.lemmas.List.Folds.{length-prefix_len}
 use denote.Param.Members.{Mut}
 use lib.ListN.{length-map}
 use Rattle.std.proofs.lemmas.Bool.Decides.{nat_tests}
-use Rattle.std.proofs.lemmas.Option.{none-some, same_Some}
 use Rattle.std.specs.Borrow.{Bor}
 use Rattle.std.specs.Fn.{CalledAt}
 use Rattle.std.specs.Iterator.{YieldsFirst, MakesProgress, SkipsThenYields, Drains, item_count}
@@ -20,39 +19,26 @@ use Rattle.lines.specs.Cursor.{to_come, Gives}
 use Rattle.lines.specs.Laws.{Rising}
 use Rattle.lines.specs.declared.cursor.LineBreaks.{LineBreaks}
 use Rattle.lines.specs.declared.records.LineBreak.{LineBreak}
-use Rattle.lines.proofs.BreakLaws.{every_text, every_list, line_none}
-use Rattle.lines.proofs.Finding.{over}
+use Rattle.lines.proofs.BreakLaws.{every_text, line_none, drop_some, drop_none}
+use Rattle.lines.proofs.Finding.{over, next_lies}
 use Rattle.lines.proofs.WidthRule.{width_rule}
 
--- break k is the first of what is left without the k before it
-from_there : (bs : List LineBreak) (k : ℕ) (b : LineBreak) → break_ending bs k ≡ Some b → drop k bs ≡ b ∷ drop (suc k) bs
-from_there [] k b is = absurd (none-some b is)
-from_there (c ∷ bs) zero b is = ap (λ d. d ∷ bs) (same_Some c b is)
-from_there (c ∷ bs) (suc k) b is = from_there bs k b is
+-- no line begins before 0
+pub line_first : (t : List ℕ) → line_of (breaks t) 0 ≡ 0
+line_first t = line_none 0 (breaks t) (length t) 0 (every_text _ width_rule t).rising (omega arith)
 
-none_there : (bs : List LineBreak) (k : ℕ) → break_ending bs k ≡ None → drop k bs ≡ []
-none_there [] zero is = refl
-none_there [] (suc k) is = refl
-none_there (c ∷ bs) zero is = absurd (none-some c (sym is))
-none_there (c ∷ bs) (suc k) is = none_there bs k is
-
--- none ends before 0
-pub line_first : (bs : List LineBreak) → line_of bs 0 ≡ 0
-line_first [] = refl
-line_first (b ∷ bs) = let rest = line_first bs in grind (arith, nat_tests)
-
-pub all_left : (bs : List LineBreak) → breaks_left bs 0 ≡ bs
-all_left bs = ap (λ k. drop k bs) (line_first bs)
+pub all_left : (t : List ℕ) → breaks_left (breaks t) 0 ≡ breaks t
+all_left t = ap (λ k. drop k (breaks t)) (line_first t)
 
 module _ (t : List ℕ) (o : ℕ) where
   pub gives_next : (b : LineBreak) → Some b ≡ next_break_lem (breaks t) o → breaks_left (breaks t) o ≡ b ∷ breaks_left (breaks t) (past b)
   gives_next b told =
       let bs = breaks t in
-      let line : line_of bs (past b) ≡ suc (line_of bs o) = (every_list bs (length t) (every_text _ width_rule t).rising).at_start (suc (line_of bs o)) (past b) (ap (option_map past) (sym told)) in
-      from_there bs (line_of bs o) b (sym told) ∙ ap (λ k. b ∷ drop k bs) (sym line)
+      let next : line_of bs (past b) ≡ line_of bs o + 1 = omega (arith, (next_lies t o b told).next_line) in
+      drop_some bs (line_of bs o) b (sym told) ∙ ap (λ k. b ∷ drop k bs) (sym next)
 
   none_left : None ≡ next_break_lem (breaks t) o → breaks_left (breaks t) o ≡ []
-  none_left told = none_there (breaks t) (line_of (breaks t) o) (sym told)
+  none_left told = drop_none (breaks t) (line_of (breaks t) o) (sym told)
 
 -- none is left, and none comes at the end
 pub gives_none : (t : List ℕ) (o n : ℕ) → None ≡ next_break_lem (breaks t) o → n ≡ length t → (breaks_left (breaks t) o ≡ []) × (breaks_left (breaks t) n ≡ [])

@@ -7,26 +7,8 @@ use Rattle.std.proofs.lemmas.Bool.Decides.{nat_tests}
 use Rattle.lines.specs.LineRule.{ends_line_lem}
 use Rattle.lines.specs.Endings.{is_plain, next_ending_lem}
 
-module _ (t : List ℕ) (i : ℕ) where
-  -- a plain byte is passed over
-  pub passes : i < length t → ends_line_lem (get_or t i 0) ≡ false → next_ending_lem t (i + 1) ≡ next_ending_lem t i
-  passes within plain = omega (arith, prefix_len-drop_yes is_plain t i 0 within (ap not plain))
-
-  pub stops : i < length t → ends_line_lem (get_or t i 0) ≡ true → next_ending_lem t i ≡ i
-  stops within ends = omega (arith, prefix_len-drop_no is_plain t i 0 within (ap not ends))
-
-  pub none_left : length t ≤ i → next_ending_lem t i ≡ length t
-  none_left past = omega (arith, prefix_len-drop_all is_plain t i past)
-
--- n plain bytes are passed over
-pub passes_all : (t : List ℕ) (i n : ℕ) → i + n ≤ length t → ((k : ℕ) → i ≤ k → k < i + n → (get_or t k 0 ≡ 13 → ⊥) × (get_or t k 0 ≡ 10 → ⊥)) → next_ending_lem t (i + n) ≡ next_ending_lem t i
-passes_all t i zero fits plain = let same : i + 0 ≡ i = omega arith in ap (next_ending_lem t) same
-passes_all t i (suc n) fits plain =
-    let here = plain (i + n) (omega arith) (omega arith) in
-    let step : i + suc n ≡ i + n + 1 = omega arith in
-    ap (next_ending_lem t) step
-    ∙ passes t (i + n) (omega arith) (grind (arith, nat_tests))
-    ∙ passes_all t i n (omega arith) (λ k low high. plain k low (omega arith))
+pub stops : (t : List ℕ) (i : ℕ) → i < length t → ends_line_lem (get_or t i 0) ≡ true → next_ending_lem t i ≡ i
+stops t i within ends = omega (arith, prefix_len-drop_no is_plain t i 0 within (ap not ends))
 
 -- in the first n bytes the search stops where it does in all, or after n
 pub leading_take : (xs : List ℕ) (n : ℕ) → prefix_len is_plain (take n xs) ≡ min (prefix_len is_plain xs) n

@@ -14,7 +14,8 @@ use Rattle.lines.proofs.Finding.{lowered_in, two}
 use Rattle.lines.proofs.WidthRule.{width_rule}
 use Rattle.payloads.proofs.Passing.{rising}
 use Rattle.payloads.proofs.Stepping.{plain_line, plain_column, line_at_end, ends_column, pair_line, pair_column}
-use Rattle.payloads.proofs.Walking.{line_first, column_first, widest}
+use Rattle.lines.proofs.Giving.{line_first}
+use Rattle.payloads.proofs.Walking.{column_first, widest}
 
 -- the first number on line 0, the second on any other
 abbrev by_line : ℕ → ℕ → ℕ → ℕ

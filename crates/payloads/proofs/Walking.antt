@@ -10,9 +10,6 @@ use Rattle.lines.proofs.Finding.{line_all, two}
 use Rattle.payloads.proofs.Passing.{rising, lowered_le}
 use Rattle.payloads.proofs.Stepping.{plain_line, line_at_end, ends_start, pair_line}
 
-pub line_first : (t : List ℕ) → line_of (breaks t) 0 ≡ 0
-line_first t = line_none 0 (breaks t) (length t) 0 (rising t) (omega arith)
-
 pub column_first : (t : List ℕ) → column_of (breaks t) 0 ≡ 0
 column_first t = omega (arith, lowered_le t 0)
 

@@ -1,6 +1,6 @@
 use Rattle.std.proofs.Common.{ap, ◌∙◌, arith}
 use Rattle.lines.specs.Breaks.{breaks, line_of}
-use Rattle.payloads.proofs.Walking.{line_first}
+use Rattle.lines.proofs.Giving.{line_first}
 use Rattle.payloads.proofs.reader.line_start.Goals as goal
 
 pub to_line-requires : goal.to_line-requires

@@ -1,6 +1,5 @@
-use Rattle.lines.specs.Breaks.{breaks}
 use Rattle.lines.proofs.Giving.{all_left}
 use Rattle.lines.proofs.text.Text.breaks.Goals as goal
 
 pub returns-clause-all : goal.returns-clause-all
-returns-clause-all c = all_left (breaks c.args.self.now.slice.now)
+returns-clause-all c = all_left c.args.self.now.slice.now

@@ -1,5 +1,6 @@
 use Rattle.std.proofs.Common.{sym, arith}
-use Rattle.payloads.proofs.Walking.{line_first, column_first}
+use Rattle.lines.proofs.Giving.{line_first}
+use Rattle.payloads.proofs.Walking.{column_first}
 use Rattle.payloads.proofs.walk.Walk.new.Goals as goal
 
 pub invariant_of-result : goal.invariant_of-result
