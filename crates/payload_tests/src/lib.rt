@@ -21,40 +21,30 @@ fn read(source: &[u8], query: [u32; 4]) -> Option<SpanContents<'_>> {
 // Whether a payload has these numbers, and that part of the source as its data.
 fn has(payload: &SpanContents, source: &[u8], numbers: [u32; 5]) -> bool {
     let [start, length, line, column, line_count] = numbers;
-    let end = start as usize + length as usize;
-    if end > source.len() {
-        return false;
-    }
-    let span = payload.span();
-    payload.data() == &source[start as usize..end]
-        && span.offset() == start
-        && span.len() == length
-        && payload.line() == line
-        && payload.column() == column
-        && payload.line_count() == line_count
+    let window = Window {
+        start,
+        length,
+        line,
+        column,
+        line_count,
+    };
+    let first = start as usize;
+    payload.window() == window
+        && source
+            .get(first..first + length as usize)
+            .is_some_and(|data| data == payload.data())
 }
 
 // Whether every row's reading is as it should be.
 fn all_read(source: &[u8], rows: &[Row]) -> bool {
-    for (query, numbers) in rows {
-        match read(source, *query) {
-            Some(payload) => {
-                if !has(&payload, source, *numbers) {
-                    return false;
-                }
-            }
-            None => return false,
-        }
-    }
-    true
+    rows.iter().all(|(query, numbers)| {
+        read(source, *query).is_some_and(|payload| has(&payload, source, *numbers))
+    })
 }
 
 // Whether an offset has this place in the payload of a window.
 fn looks_up(source: &[u8], window: Window, offset: u32, place: Option<Place>) -> bool {
-    match contents(source, window) {
-        Some(payload) => payload.line_column_at(offset) == place,
-        None => false,
-    }
+    contents(source, window).is_some_and(|payload| payload.line_column_at(offset) == place)
 }
 
 #[cfg(test)]
