@@ -55,8 +55,7 @@ impl<'a> Walk<'a> {
         ensures text { self.new.text.slice.now ≡ self.old.text.slice.now }
         ensures at { self.new.at ≡ max self.old.at (min offset (length self.old.text.slice.now)) }
     {
-        let end = offset.min(self.text.len());
-        while self.at < end {
+        for _ in self.at..offset.min(self.text.len()) {
             self.step();
         }
     }
