@@ -5,7 +5,7 @@ use Rattle.std.proofs.lemmas.Bool.Decides.{nat_tests}
 use Rattle.lines.specs.Breaks.{breaks, line_start_lem, line_of, column_of}
 use Rattle.lines.specs.LineRule.{width}
 use Rattle.lines.specs.declared.records.LineBreak.{LineBreak}
-use Rattle.lines.proofs.BreakLaws.{line_none, few}
+use Rattle.lines.proofs.BreakLaws.{few}
 use Rattle.lines.proofs.Finding.{line_all, two}
 use Rattle.payloads.proofs.Passing.{rising, lowered_le}
 use Rattle.payloads.proofs.Stepping.{plain_line, line_at_end, ends_start, pair_line}

@@ -1,15 +1,10 @@
-use Rattle.std.proofs.Common.{◌≡◌, ◌+◌, ◌≤◌, length, sym, ap, ◌∙◌, subst, arith}
-use Rattle.lines.specs.Breaks.{breaks, break_ending, line_of, column_of}
-use Rattle.lines.specs.Windows.{window_line, window_start, window_end_lem}
-use Rattle.line_maps.proofs.WindowRead.{line_kept, line_told, line_below, start_end, window_is}
+use Rattle.std.proofs.Common.{◌≡◌, ◌+◌, ◌≤◌, length, sym, ap, ◌∙◌, arith}
+use Rattle.lines.specs.Breaks.{breaks, break_ending}
+use Rattle.lines.specs.Windows.{window_start, window_end_lem}
+use Rattle.line_maps.proofs.WindowRead.{line_kept, line_below, start_end}
 use Rattle.line_maps.proofs.reading.read.Given as given
 use Rattle.line_maps.proofs.reading.read.Goals as goal
 use Rattle.line_maps.proofs.reading.read.Goals.{else-context-eq0-via-then-context-eq0+else-offset-length, else-context-eq0-via-else-context-eq0}
-
-pub returns-in_err-line : goal.returns-in_err-line
-returns-in_err-line g c =
-    let m = g.M.LineMap in
-    absurd (line_told (m.text c.cover.new.self) c.offset-offset.result c.length-length.result c.min.result (c.length-length.ensures ∙ ap length (sym c.cover.ensures.kept)) c.min.ensures (sym c.line_index_of.ensures ∙ c.in_err-line.was))
 
 pub open-requires : goal.open-requires
 open-requires g c = let m = g.M.LineMap in record {
@@ -54,25 +49,3 @@ inner g c none = elim c.else-context-eq0.branch [
 
 pub overflow_sub-result : goal.overflow_sub-result
 overflow_sub-result g c = start_end (g.M.LineMap.text c.args.map.now) c.args.span c.args.context (fits g c) (inner g c) c.in_ok-first.first.start 0 0 c.close-last.result.end 0 (start_is g c) (end_is g c)
-
-pub returns : goal.returns
-returns g c =
-    let m = g.M.LineMap in
-    let t = m.text c.args.map.now in
-    let same = c.break_ending_line-found.ensures.kept ∙ c.cover.ensures.kept in
-    let first = c.in_ok-first.first in
-    let line : first.line ≡ window_line (breaks t) c.args.span.offset c.args.context.before =
-    c.in_ok-first.ensures.told.1
-    ∙ ap (λ t. window_line (breaks t) c.offset-offset.result c.args.context.before) same
-    ∙ ap (λ o. window_line (breaks t) o c.args.context.before) c.offset-offset.ensures in
-    let column : first.column ≡ column_of (breaks t) (window_start (breaks t) c.args.span.offset c.args.context.before) =
-    c.in_ok-first.ensures.told.2
-    ∙ ap (λ t. column_of (breaks t) (window_start (breaks t) c.offset-offset.result c.args.context.before)) same
-    ∙ ap (λ o. column_of (breaks t) (window_start (breaks t) o c.args.context.before)) c.offset-offset.ensures in
-    let count : c.close-last.result.line_count ≡ line_of (breaks t) c.close-last.result.end = c.close-last.ensures.lines ∙ ap (λ t. line_of (breaks t) c.close-last.result.end) same in
-    record {
-      told = window_is t c.args.span c.args.context (fits g c) (inner g c) first.start first.line first.column c.close-last.result.end c.close-last.result.line_count (start_is g c) (end_is g c) line column count;
-      kept = c.close-last.ensures.kept ∙ same;
-      onward = omega (arith, c.cover.ensures.onward, c.break_ending_line-found.ensures.onward, c.close-last.ensures.onward);
-      covers = (m.frontier c.cover.new.self, subst (λ o. m.covered c.args.map.now o c.args.context.before (m.frontier c.cover.new.self)) c.offset-offset.ensures c.cover.ensures.reached, omega (arith, c.break_ending_line-found.ensures.onward, c.close-last.ensures.onward));
-    }

@@ -1,21 +1,12 @@
-use Rattle.std.proofs.Common.{length, ap, ◌∙◌, arith}
+use Rattle.std.proofs.Common.{ap, ◌∙◌}
 use Rattle.lines.specs.Breaks.{breaks, next_break_lem}
-use Rattle.lines.proofs.Finding.{finds_none, finds_some, fits, few_seen}
+use Rattle.lines.proofs.Finding.{finds_none, finds_some}
 use Rattle.lines.proofs.breaks.next_break.Goals as goal
 
 pub returns-then-width-eq0 : goal.returns-then-width-eq0
 returns-then-width-eq0 c =
     finds_none c.seen_bytes-text.result.now c.args.from _ _ c.lower.ensures c.next_ending-start.ensures _ c.break_width-width.ensures c.if-width-eq0.true
     ∙ ap (λ t. next_break_lem (breaks t) c.args.from) c.seen_bytes-text.ensures
-
-pub overflow_cast-result-2 : goal.overflow_cast-result-2
-overflow_cast-result-2 c =
-    omega (
-      arith,
-      fits c.seen_bytes-text.result.now c.args.from _ _ c.lower.ensures c.next_ending-start.ensures _ c.break_width-width.ensures,
-      ap length c.seen_bytes-text.ensures,
-      few_seen c.args.source.now,
-    )
 
 pub returns : goal.returns
 returns c =

@@ -1,10 +1,7 @@
-use Rattle.std.proofs.Common.{length, unwrap_or, sym, refl, ap, ◌∙◌, subst, arith}
+use Rattle.std.proofs.Common.{length, unwrap_or, sym, ap, ◌∙◌, subst, arith}
 use Rattle.lines.specs.Breaks.{breaks, line_start_lem}
-use Rattle.payloads.proofs.Walking.{Nearing, nearing_first, nearing_more, nearing_done}
+use Rattle.payloads.proofs.Walking.{Nearing, nearing_more, nearing_done}
 use Rattle.payloads.proofs.walk.Walk.to_line.Goals as goal
-
-pub loop-self-init : goal.loop-self-init
-loop-self-init c = let self = c.args.self.now in (refl, omega arith, nearing_first self.text.slice.now c.args.line self.at (omega (arith, self.line_is, c.requires)))
 
 pub loop-self-preserved : goal.loop-self-preserved
 loop-self-preserved c =
