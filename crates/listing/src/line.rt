@@ -1,5 +1,5 @@
 // A line of a source, as the line table lists it.
-ghost use Rattle.std.specs.Prelude.{Some};
+ghost use Rattle.std.specs.Prelude.{◌≡◌, Some};
 ghost use Rattle.listing.specs.Table.{ending_text, line_text};
 
 use std::fmt;
@@ -12,16 +12,24 @@ pub enum Ending {
     CrLf,
 }
 
-// The word that the table has for it.
+impl Ending {
+    // The word that the table has for it.
+    pub fn text(self) -> &'static str
+        ensures { result.now ≡ ending_text (Some self) }
+    {
+        match self {
+            Ending::Lf => "LF",
+            Ending::Cr => "CR",
+            Ending::CrLf => "CR LF",
+        }
+    }
+}
+
 impl fmt::Display for Ending {
     ghost output = { λ ending. Some (ending_text (Some ending)) };
 
     fn fmt<W: fmt::Write>(&self, f: &mut fmt::Formatter<W>) -> fmt::Result {
-        f.write_str(match self {
-            Ending::Lf => "LF",
-            Ending::Cr => "CR",
-            Ending::CrLf => "CR LF",
-        })
+        f.write_str(self.text())
     }
 }
 

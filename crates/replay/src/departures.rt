@@ -1,5 +1,5 @@
-// The two ways in which the original's answers depart from the rules. A query alone decides under which one it falls.
-use crate::rows::Query;
+// The two ways in which the original's answers depart from the rules. A label alone decides under which one it falls.
+use label_lines::label::Label;
 use lines::cursor::LineBreaks;
 use payloads::reader::fresh_reading;
 
@@ -14,8 +14,8 @@ pub enum Departure {
 // How an answer compares: it agrees, or it differs, by a departure or otherwise.
 pub type Outcome = Result<(), Option<Departure>>;
 
-pub fn departure_of(source: &[u8], query: Query) -> Option<Departure> {
-    let Query { span, context } = query;
+pub fn departure_of(source: &[u8], label: Label) -> Option<Departure> {
+    let Label { span, context } = label;
     if span.offset() == 0 && span.is_empty() {
         return Some(Departure::EmptyAtZero);
     }

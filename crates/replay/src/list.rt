@@ -1,9 +1,10 @@
 // The list of the original's answers, held against this repository's.
 use crate::departures::{Outcome, departure_of};
-use crate::rows::{Answer, Query, Row};
+use crate::rows::{Answer, Row};
 use crate::tally::Tally;
 use call_runs::calls::{Call, Told};
 use call_runs::run::run;
+use label_lines::label::Label;
 use line_maps::plain::PlainScan;
 use lines::records::{Place, Window};
 use payloads::reader::fresh_reading;
@@ -33,25 +34,25 @@ impl List {
     // How the row's answer compares; a row without one agrees.
     pub fn replay(&mut self, row: &str) -> anyhow::Result<Outcome> {
         let source = self.source.as_slice();
-        let (agrees, query) = match Row::parse(self.heap, row)? {
+        let (agrees, label) = match Row::parse(self.heap, row)? {
             Row::Comment => return Ok(Ok(())),
             Row::Source(bytes) => {
                 self.source = bytes;
                 return Ok(Ok(()));
             }
-            Row::Read(query, answer) => {
+            Row::Read(label, answer) => {
                 self.tally.reads = self.tally.reads.saturating_add(1);
-                (reading_agrees(source, query, answer), query)
+                (reading_agrees(source, label, answer), label)
             }
-            Row::Look(query, at, answer) => {
+            Row::Look(label, at, answer) => {
                 self.tally.look_ups = self.tally.look_ups.saturating_add(1);
-                (look_up_agrees(source, query, at, answer), query)
+                (look_up_agrees(source, label, at, answer), label)
             }
         };
         let outcome = if agrees {
             Ok(())
         } else {
-            Err(departure_of(source, query))
+            Err(departure_of(source, label))
         };
         self.tally.count(outcome);
         Ok(outcome)
@@ -59,17 +60,17 @@ impl List {
 }
 
 // A reading agrees if the fresh reading and the read over a line map do.
-fn reading_agrees(source: &[u8], query: Query, answer: Answer<Window>) -> bool {
-    let payload = fresh_reading(source, query.span, query.context);
+fn reading_agrees(source: &[u8], label: Label, answer: Answer<Window>) -> bool {
+    let payload = fresh_reading(source, label.span, label.context);
     let window = payload.map(|payload| payload.window());
     answer == Some(window)
-        && ask(source, Call::Read(query.span, query.context)) == Told::Shown(window)
+        && ask(source, Call::Read(label.span, label.context)) == Told::Shown(window)
         && payload.is_none_or(|payload| payload.data().len() == payload.span().len() as usize)
 }
 
 // A look-up agrees if it does in the payload and, from the payload's start on, by a locate over a line map.
-fn look_up_agrees(source: &[u8], query: Query, at: u32, answer: Answer<Place>) -> bool {
-    let Some(payload) = fresh_reading(source, query.span, query.context) else {
+fn look_up_agrees(source: &[u8], label: Label, at: u32, answer: Answer<Place>) -> bool {
+    let Some(payload) = fresh_reading(source, label.span, label.context) else {
         return false;
     };
     let place = payload.line_column_at(at);

@@ -4,6 +4,7 @@
 // length, line, column and line_count, or `none`. `look` has the same four numbers and an offset, and then line and
 // column, or `none`. A row that begins with `#` is a comment.
 use anyhow::{anyhow, bail};
+use label_lines::label::Label;
 use lines::records::{Context, Place, SourceSpan, Window};
 use lower_hex::{HexError, decode};
 use std::alloc::{AllocError, Global};
@@ -12,16 +13,9 @@ use std::alloc::{AllocError, Global};
 pub enum Row {
     Comment,
     Source(Vec<u8>),
-    Read(Query, Answer<Window>),
+    Read(Label, Answer<Window>),
     // The place of an offset.
-    Look(Query, u32, Answer<Place>),
-}
-
-// A span with its context.
-#[derive(Clone, Copy)]
-pub struct Query {
-    pub span: SourceSpan,
-    pub context: Context,
+    Look(Label, u32, Answer<Place>),
 }
 
 // What the original answered, which may be none; nothing where the row's numbers are no answer.
@@ -49,9 +43,9 @@ impl Row {
         }
         let numbers = numbers.as_slice();
         match kind {
-            "read" => Ok(Row::Read(query_of(numbers)?, window_of(numbers))),
+            "read" => Ok(Row::Read(label_of(numbers)?, window_of(numbers))),
             "look" => Ok(Row::Look(
-                query_of(numbers)?,
+                label_of(numbers)?,
                 number_at(numbers, 4)?,
                 place_of(numbers),
             )),
@@ -69,13 +63,13 @@ fn bytes_of(heap: Global, hex: &str) -> anyhow::Result<Vec<u8>> {
     })
 }
 
-// A number of the query, 0 where the row has none.
+// A number of the label, 0 where the row has none.
 fn number_at(numbers: &[u64], place: usize) -> anyhow::Result<u32> {
     Ok(u32::try_from(numbers.get(place).copied().unwrap_or(0))?)
 }
 
-fn query_of(numbers: &[u64]) -> anyhow::Result<Query> {
-    Ok(Query {
+fn label_of(numbers: &[u64]) -> anyhow::Result<Label> {
+    Ok(Label {
         span: SourceSpan::from((number_at(numbers, 0)?, number_at(numbers, 1)?)),
         context: Context {
             before: number_at(numbers, 2)?,
@@ -84,7 +78,7 @@ fn query_of(numbers: &[u64]) -> anyhow::Result<Query> {
     })
 }
 
-// The window after a query's four numbers.
+// The window after the four numbers of a label.
 fn window_of(numbers: &[u64]) -> Answer<Window> {
     match *numbers {
         [_, _, _, _] => Some(None),
@@ -99,7 +93,7 @@ fn window_of(numbers: &[u64]) -> Answer<Window> {
     }
 }
 
-// The place after a query's four numbers and an offset.
+// The place after the four numbers of a label and an offset.
 fn place_of(numbers: &[u64]) -> Answer<Place> {
     match *numbers {
         [_, _, _, _, _] => Some(None),
