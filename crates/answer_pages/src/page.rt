@@ -31,7 +31,8 @@ pub fn answer_page<M: LineMap>(
     gather(heap, &slots, &told)
 }
 
-// A call for each label line of an input.
+// A call for each label line of an input. An empty last line is none, and the bytes of each are needed, so that it does
+// not go by the lines of the line table.
 fn label_calls<'a>(heap: Global, input: &'a [u8]) -> Result<Vec<Call<'a>>, AllocError>
     ensures { IfOk result (λ calls. (map asked_by calls.items ≡ slots_from 0 (labels_in (seen input.now))) × (vec_len calls < 2 ^ 33)) }
 {

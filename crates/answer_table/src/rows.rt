@@ -38,6 +38,7 @@ impl Table {
             return Ok(None);
         }
         let words: Vec<&str> = row.split(' ').take(7).collect(self.heap)?;
+        // Rows are data of a few kinds.
         match words.as_slice() {
             ["source"] => self.take_source(""),
             ["source", hex] => self.take_source(hex),
@@ -70,6 +71,7 @@ impl Table {
         let mut map = PlainScan::new(self.source.as_slice());
         let told = match answer(&mut map, line.as_slice(), buffer.as_mut_slice()) {
             Ok(count) => format!(in self.heap; "count {count}")?,
+            // The only place that prints a fault's numbers so.
             Err(fault) => {
                 let Fault {
                     number,
@@ -102,7 +104,7 @@ fn buffer_of(heap: Global, length: &str) -> anyhow::Result<Vec<u8>> {
     Ok(vec![in heap; FILL; length]?)
 }
 
-// The bytes of a source or a line.
+// The bytes of a source or a line, with this table's own messages.
 fn bytes_of(heap: Global, hex: &str) -> anyhow::Result<Vec<u8>> {
     decode(heap, hex.as_bytes()).map_err(|error| match error {
         HexError::HalfByte => anyhow!("a row has half a byte"),

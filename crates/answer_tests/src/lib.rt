@@ -16,6 +16,7 @@ mod tests {
 
     const SCALE: &[u8] = b"Do\r\nRe\rMi\nFa";
 
+    // `ask` and `shown` are as in `map_tests`: the values of a test stay in its crate.
     fn ask(offset: u32, length: u32, before: u32, after: u32) -> Call<'static> {
         Call::Read(
             SourceSpan::from((offset, length)),

@@ -1,4 +1,5 @@
-// Readings and look-ups as flags and rows of numbers, for programs in other languages that compare or measure.
+// Readings and look-ups as flags and rows of numbers, for programs in other languages that compare or measure. They take
+// and tell numbers one by one, since that is what C has.
 #![tactic(auto)]
 
 ghost use Rattle.std.specs.Prelude.{◌≡◌};

@@ -1,4 +1,5 @@
 // The C boundary: what `c_boundary` answers, under the names that C calls. A slice goes over as its place and its length.
+// The functions stand here once more, since a crate is a library or a static library.
 #![tactic(auto)]
 
 ghost use Rattle.std.specs.Prelude.{◌≡◌};

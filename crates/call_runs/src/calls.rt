@@ -4,7 +4,8 @@ ghost use Rattle.std.specs.Prelude.{◌≡◌, ◌+◌, min};
 use lines::records::{Context, Fault, Place, SourceSpan, Window};
 use std::ops::Range;
 
-// A part of a page: its first place and its length. What would lie past the page is no part of it.
+// A part of a page: its first place and its length. What would lie past the page is no part of it. It is no slice, since
+// the parts of a run may overlap.
 #[derive(Clone, Copy)]
 pub struct PagePart {
     pub start: usize,

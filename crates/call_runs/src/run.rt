@@ -13,7 +13,8 @@ use lines::records::Fault;
 
 // Runs as many of the calls as there are places for what they tell, and answers how many. Whatever the map, its state,
 // the page and the calls, each call tells what a reference tells that is given the text, that one call and its output
-// buffer alone, the buffer is left as the reference leaves it, and the law of runs holds of all that was told.
+// buffer alone, the buffer is left as the reference leaves it, and the law of runs holds of all that was told. What is
+// told goes into a slice of the caller's, so that a run cannot fail.
 pub fn run<M: LineMap>(map: &mut M, page: &mut [u8], calls: &[Call], told: &mut [Told]) -> usize
     ensures count { result ≡ min (length calls.now) (length told.old) }
     ensures law { Lawful (M.text map.old) page.old page.new (take result calls.now) (take result told.new) }
@@ -29,7 +30,7 @@ pub fn run<M: LineMap>(map: &mut M, page: &mut [u8], calls: &[Call], told: &mut 
     count
 }
 
-// One call.
+// One call. A match on its kind, since a call is data that the law speaks of.
 pub fn serve<M: LineMap>(map: &mut M, page: &mut [u8], call: Call) -> Told
     ensures told { result ≡ reference (M.text map.old) (handed_in page.old call.entry) call.entry }
     ensures page { page.new ≡ page_after (M.text map.old) page.old call.entry }

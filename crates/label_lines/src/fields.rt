@@ -8,7 +8,8 @@ use crate::faults::{FieldFault, Spot};
 
 const MOST_DIGITS: usize = 10;
 
-// The number in the bytes of a field, which starts at this spot of its line.
+// The number in the bytes of a field, which starts at this spot of its line. Its digits are taken in turn, since a fault
+// tells the place of the first byte that is none.
 pub(crate) fn field_number(bytes: &[u8], spot: Spot) -> Result<u32, FieldFault>
     requires { spot.place + length bytes.now < 2 ^ 32 }
     ensures { result_map_both (λ n. n) field_numbers result ≡ field_of spot.field spot.place bytes.now }

@@ -7,6 +7,7 @@ ghost use Rattle.label_lines.specs.Parts.{piece_of, piece_at, place_after_lem, d
 pub enum Part<'a> {
     Field(&'a [u8]),
     Comma,
+    // A part like the others, which the reader hands out for ever after.
     End,
 }
 
@@ -22,6 +23,7 @@ pub struct Placed<'a> {
 pub struct LabelReader<'a> {
     line: &'a [u8],
     at: usize,
+    // Whether a field is due here, and else a comma: no value stands beside it, and the definitions go by it.
     due: bool,
     ghost within: { at ≤ length line.now },
 }

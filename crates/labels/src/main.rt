@@ -17,6 +17,7 @@ fn main(rt: HostRuntime) -> ExitCode {
 // Prints the answers to the first 16,384 bytes of labels over the first 65,536 of the source; where either is longer,
 // that is an error, told once they are printed.
 fn answer_labels(rt: &HostRuntime) -> anyhow::Result<()> {
+    // Inputs lie in arrays of a fixed size.
     let mut source_bytes = [0u8; 65_536];
     let mut input_bytes = [0u8; 16_384];
     let source = fill_from_file(rt, "source.txt", &mut source_bytes)?;

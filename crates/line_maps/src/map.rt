@@ -6,7 +6,8 @@ ghost use Rattle.line_maps.specs.Answers.{line_index};
 use lines::records::LineBreak;
 
 // A line map means a text, and tells of it whatever was called before. How it comes to its answers, and what it
-// remembers, is its own.
+// remembers, is its own. That a call keeps the text, and that the frontier does not fall, stands in clauses here and
+// above: it relates a map to the one before, which no type holds.
 pub trait LineMap {
     // The text that the map was opened on. Every call keeps it.
     ghost text: { Self → List ℕ };

@@ -13,6 +13,7 @@ pub fn locate<M: LineMap>(map: &mut M, offset: u32) -> Option<Place>
 {
     let line = map.line_index_of(offset)?;
     let start = map.line_start_of(line)?;
+    // As in `open`: a function of the two arms would have a clause as long as its body.
     let at = match map.break_ending_line(line) {
         Some(found) => offset.min(found.start),
         None => offset,

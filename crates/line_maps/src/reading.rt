@@ -9,7 +9,8 @@ use lines::records::{Context, LineBreak, SourceSpan, Window};
 
 // The window of a span and its context, or none where there is no window. It learns about the text from the map alone:
 // it asks for the line of the offset, for starts of lines at or before it, and then for break after break from that
-// line on, counting lines as it goes.
+// line on, counting lines as it goes. Span and context come one by one, as to the reader of payloads, and the test
+// whether there is a window is the reader's, here of what the map tells.
 pub fn read<M: LineMap>(map: &mut M, span: SourceSpan, context: Context) -> Option<Window>
     ensures told { result ≡ window (M.text map.old) span context }
     ensures kept { M.text map.new ≡ M.text map.old }
@@ -39,7 +40,7 @@ pub fn read<M: LineMap>(map: &mut M, span: SourceSpan, context: Context) -> Opti
     })
 }
 
-// Where a window starts, with its line and column.
+// Where a window starts, with its line and column; the reader of payloads has one too, as private.
 #[derive(Clone, Copy)]
 struct Opening {
     start: u32,
@@ -47,7 +48,8 @@ struct Opening {
     column: u32,
 }
 
-// The opening of the window of a span at this offset, which is on this line; `found` is the break that ends it.
+// The opening of the window of a span at this offset, which is on this line; `found` is the break that ends it. A struct
+// of the two would be taken apart at once, here and in `close`.
 fn open<M: LineMap>(
     map: &M,
     offset: u32,
@@ -87,7 +89,8 @@ struct Closing {
     line_count: u32,
 }
 
-// The end of the window of a span that ends before `end` and begins on this line; `found` is the break that ends it.
+// The end of the window of a span that ends before `end` and begins on this line; `found` is the break that ends it. The
+// loop is the original's, and the end is what `break` hands out; it counts lines, and no index.
 fn close<M: LineMap>(
     map: &mut M,
     total: u32,

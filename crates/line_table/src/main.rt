@@ -13,6 +13,7 @@ fn main(rt: HostRuntime) -> ExitCode {
 
 // Prints the table of the first 65,536 bytes; a longer source is an error, told once they are listed.
 fn list(rt: &HostRuntime) -> anyhow::Result<()> {
+    // Inputs lie in arrays of a fixed size.
     let mut bytes = [0u8; 65_536];
     let source = fill_from_file(rt, "source.txt", &mut bytes)?;
     rt.print(line_table(rt.alloc(), source.bytes_in(&bytes))?)?;

@@ -98,7 +98,7 @@ pub struct Place {
 }
 
 // Why a call refused: the fault's number and layer, and the field and the place in the line that it is about, both 0
-// where it is about the whole line.
+// where it is about the whole line. Numbers and no enum, as faults are written; each layer has an enum of its own.
 #[derive(Clone, Copy, PartialEq, Eq, Debug)]
 pub struct Fault {
     pub number: u32,

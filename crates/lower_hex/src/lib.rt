@@ -51,7 +51,7 @@ fn byte_of(high: u8, low: u8) -> Option<u8>
     Some(value_of(high)? * 16 + value_of(low)?)
 }
 
-// The number of a digit.
+// The number of a digit. The library's own digits may be upper case too.
 fn value_of(digit: u8) -> Option<u8>
     ensures below { IfSome result (λ value. value < 16) }
     ensures value { IfSome result (λ value. hex_digit value ≡ digit) }

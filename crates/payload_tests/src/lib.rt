@@ -6,7 +6,7 @@ use payloads::contents::{SpanContents, contents};
 use payloads::reader::fresh_reading;
 
 // A row of a table: offset, length, before and after of a query, and start, length, line, column and line_count of the
-// window that it should have.
+// window that it should have, which are short as arrays.
 type Row = ([u32; 4], [u32; 5]);
 
 fn read(source: &[u8], query: [u32; 4]) -> Option<SpanContents<'_>> {

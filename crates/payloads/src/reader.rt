@@ -151,7 +151,8 @@ fn close(walk: &mut Walk, end: u64, after: u32)
     }
 }
 
-// The place, or one past the break that it is inside.
+// The place, or one past the break that it is inside. It asks for a break of two bytes, as `lower` does, and not whether
+// `lower` moves the place, since `end + 1` rests on the two.
 fn cut_after(text: &[u8], end: usize) -> usize
     requires { end ≤ length text.now }
     ensures cut { result ≡ cut_after_lem (breaks text.now) end }

@@ -17,6 +17,7 @@ pub(crate) struct Walk<'a> {
     ghost column_is: { column ≡ column_of (breaks text.slice.now) at },
 }
 
+// That a step keeps the text stands in clauses: it relates a walk to the one before, which no type holds.
 impl<'a> Walk<'a> {
     // A walk that stands at the front.
     pub(crate) fn new(text: Text<'a>) -> Walk<'a>
@@ -60,7 +61,8 @@ impl<'a> Walk<'a> {
         }
     }
 
-    // On to the start of a line further down, or to the end where there is no such line.
+    // On to the start of a line further down, or to the end where there is no such line. A loop of its own beside `to`: a
+    // closure that says when to stop is no plainer.
     pub(crate) fn to_line(&mut self, line: u64)
         requires { self.old.line < line }
         ensures text { self.new.text.slice.now ≡ self.old.text.slice.now }

@@ -42,6 +42,7 @@ impl Row {
             numbers.push(word.parse::<u64>()?)?;
         }
         let numbers = numbers.as_slice();
+        // Rows are data of a few kinds.
         match kind {
             "read" => Ok(Row::Read(label_of(numbers)?, window_of(numbers))),
             "look" => Ok(Row::Look(
@@ -54,7 +55,7 @@ impl Row {
     }
 }
 
-// The bytes of a source, two digits each; a last digit alone names none.
+// The bytes of a source, two digits each; a last digit alone names none, and the message is this list's own.
 fn bytes_of(heap: Global, hex: &str) -> anyhow::Result<Vec<u8>> {
     let digits = hex.as_bytes();
     decode(heap, &digits[..digits.len() / 2 * 2]).map_err(|error| match error {
