@@ -5,7 +5,7 @@ use Rattle.lines.specs.Breaks.{breaks, past}
 use Rattle.lines.specs.Laws.{Rising}
 use Rattle.lines.specs.declared.records.LineBreak.{LineBreak}
 use Rattle.lines.proofs.BreakLaws.{few}
-use Rattle.payloads.proofs.Passing.{rising}
+use Rattle.lines.proofs.Finding.{rising}
 use Rattle.answer_pages.specs.Pages.{last_label, labels_from, labels_in}
 use Rattle.answer_pages.specs.Slots.{slot, Asked, slots_from}
 

@@ -8,7 +8,8 @@ use Rattle.lines.specs.declared.records.Fault.{Fault}
 use Rattle.lines.specs.declared.records.SourceSpan.{SourceSpan}
 use Rattle.lines.specs.declared.records.Window.{Window}
 use Rattle.lines.proofs.BreakLaws.{few}
-use Rattle.payloads.proofs.Passing.{rising, lowered_le}
+use Rattle.lines.proofs.Finding.{rising}
+use Rattle.payloads.proofs.Passing.{lowered_le}
 use Rattle.payloads.proofs.Walking.{line_few}
 use Rattle.payloads.proofs.Whole.{the_window, fits}
 use Rattle.label_lines.specs.Labels.{followed, label_of}

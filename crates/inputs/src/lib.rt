@@ -31,6 +31,7 @@ impl Filled {
 
 // Reads until the buffer is full or nothing more comes, and then looks for one byte more. By `read`, since `read_exact`
 // does not tell how many bytes a short input had, and `read_to_end` needs a Vec.
+// After an error the buffer holds what was read before it.
 pub fn fill<R: Read>(from: &mut R, buf: &mut [u8]) -> io::Result<Filled>
     ensures { IfOk result (Holds buf.new (R.remaining from.old)) }
 {

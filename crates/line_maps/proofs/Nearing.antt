@@ -11,7 +11,7 @@ use Rattle.lines.specs.declared.records.LineBreak.{LineBreak}
 use Rattle.lines.proofs.BreakLaws.{line_none, Lies, lies, few, every_list}
 use Rattle.lines.proofs.Finding.{line_all}
 use Rattle.payloads.proofs.Ends.{cut_ge, cut_none, cut_more, cut_same, end_trailing}
-use Rattle.payloads.proofs.Passing.{rising}
+use Rattle.lines.proofs.Finding.{rising}
 use Rattle.payloads.proofs.Stepping.{ends_pair, from_start, start_le}
 use Rattle.payloads.proofs.Walking.{line_few, no_line}
 use Rattle.payloads.proofs.Whole.{ended_cut}

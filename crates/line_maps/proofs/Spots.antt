@@ -7,7 +7,7 @@ use Rattle.lines.specs.Windows.{window_line, window_start}
 use Rattle.lines.specs.declared.records.LineBreak.{LineBreak}
 use Rattle.lines.proofs.BreakLaws.{line_none, lowered_none, every_list}
 use Rattle.payloads.proofs.Ends.{line_there}
-use Rattle.payloads.proofs.Passing.{rising}
+use Rattle.lines.proofs.Finding.{rising}
 use Rattle.payloads.proofs.Stepping.{from_start}
 use Rattle.payloads.proofs.Walking.{line_few}
 use Rattle.line_maps.specs.Answers.{line_index}

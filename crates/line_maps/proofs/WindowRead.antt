@@ -7,7 +7,7 @@ use Rattle.lines.specs.declared.records.Context.{Context}
 use Rattle.lines.specs.declared.records.SourceSpan.{SourceSpan}
 use Rattle.lines.proofs.BreakLaws.{every_list}
 use Rattle.payloads.proofs.Ends.{line_min}
-use Rattle.payloads.proofs.Passing.{rising}
+use Rattle.lines.proofs.Finding.{rising}
 use Rattle.payloads.proofs.Whole.{started, ended}
 use Rattle.line_maps.specs.Answers.{line_index}
 use Rattle.line_maps.proofs.Spots.{index_is, index_none}

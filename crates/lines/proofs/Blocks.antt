@@ -1,8 +1,8 @@
 -- The search for CR and LF block by block. Assumes nothing.
-use Rattle.std.proofs.Common.{◌≡◌, ℕ, zero, suc, ◌+◌, ◌-◌, ◌*◌, ◌<◌, ◌≤◌, Bool, true, false, cond, not, ◌&&◌, true≢false, nat_lt, List, [], ◌∷◌, length, get_or, take, drop, position, Some, None, sym, refl, ap, ◌∙◌, subst, arith}
+use Rattle.std.proofs.Common.{◌≡◌, ℕ, zero, suc, ◌+◌, ◌-◌, ◌*◌, ◌/◌, ◌<◌, ◌≤◌, Bool, true, false, cond, not, ◌&&◌, true≢false, nat_lt, List, [], ◌∷◌, length, get_or, take, drop, position, Some, None, sym, refl, ap, ◌∙◌, subst, arith}
 use Rattle.std.specs.List.{fold, prefix_len, position_or_len}
 use Rattle.std.specs.Simd.{first_chunks}
-use Rattle.std.proofs.lemmas.List.{drop-drop, length-drop, length-take}
+use Rattle.std.proofs.lemmas.List.{drop-drop, length-drop, length-take, take_rest}
 use Rattle.std.proofs.lemmas.List.Sums.{prefix_len-le-length}
 use Rattle.std.proofs.lemmas.Option.{cond_some, none-some}
 use Rattle.std.proofs.lemmas.Bool.Decides.{nat_tests}
@@ -59,8 +59,26 @@ length_chunks : (m : ℕ) (xs : List ℕ) → length (first_chunks 16 m xs) ≡ 
 length_chunks zero xs = refl
 length_chunks (suc m) xs = omega (arith, length_chunks m (drop 16 xs))
 
--- r is the rest of t from i on, and `blocks` are its whole blocks
-module _ (t : List ℕ) (i : ℕ) (within : i ≤ length t) (r : List ℕ) (rest : r ≡ drop i t) (blocks : List (List ℕ)) (m : ℕ) (cut : blocks ≡ first_chunks 16 m r) (fits : 16 * m ≤ length r) where
+-- the rest of a text from i on, as a slice of it is written, and how many blocks of n bytes are whole in it
+abbrev pub rest_of : List ℕ → ℕ → List ℕ
+rest_of t i = take (length t - i) (drop i t)
+
+abbrev pub whole_blocks : ℕ → List ℕ → ℕ → ℕ
+whole_blocks n t i = length (rest_of t i) / n
+
+module _ (t : List ℕ) (i : ℕ) (within : i ≤ length t) (blocks : List (List ℕ)) (cut : blocks ≡ first_chunks 16 (whole_blocks 16 t i) (rest_of t i)) where
+  abbrev r : List ℕ
+  r = rest_of t i
+
+  abbrev m : ℕ
+  m = whole_blocks 16 t i
+
+  rest : r ≡ drop i t
+  rest = take_rest t i
+
+  fits : 16 * m ≤ length r
+  fits = omega arith
+
   pub block_hit : (k : ℕ) → position ends_in_16 blocks ≡ Some k → i + 16 * k + prefix_len is_plain (get_or blocks k []) ≡ next_ending_lem t i
   block_hit k is =
       let at = found _ _ k is in
@@ -73,7 +91,10 @@ module _ (t : List ℕ) (i : ℕ) (within : i ≤ length t) (r : List ℕ) (rest
       omega (arith, here, ap (prefix_len is_plain) rest, prefix_len-le-length is_plain r, ap length rest, length-drop i t)
 
   -- none of the blocks does, and so the search goes on in the last bytes
-  module _ (last : List ℕ) (end : last ≡ drop (16 * m) r) (is : position ends_in_16 blocks ≡ None) where
+  module _ (last : List ℕ) (back : last ≡ drop (whole_blocks 16 t i * 16) (rest_of t i)) (is : position ends_in_16 blocks ≡ None) where
+    end : last ≡ drop (16 * m) r
+    end = let turned : m * 16 ≡ 16 * m = omega arith in back ∙ ap (λ n. drop n r) turned
+
     at_last : prefix_len is_plain (drop i t) ≡ 16 * m + prefix_len is_plain last
     at_last =
         let out = not_found _ (position_or_len ends_in_16 blocks) is in
@@ -133,9 +154,12 @@ passed : (m : ℕ) (xs : List ℕ) → 256 * m ≤ length xs → Passed m xs
 passed zero xs fits = record { few = omega arith; plain = omega arith }
 passed (suc m) xs fits = passed_more m xs fits (passed m (drop 256 xs) (omega (arith, length-drop 256 xs))) (is_clear_block (take 256 xs)) refl
 
-module _ (t : List ℕ) (i : ℕ) (within : i ≤ length t) (r : List ℕ) (rest : r ≡ drop i t) (blocks : List (List ℕ)) (m : ℕ) (cut : blocks ≡ first_chunks 256 m r) (fits : 256 * m ≤ length r) (k : ℕ) (clear : k ≡ prefix_len is_clear_block blocks) where
+module _ (t : List ℕ) (i : ℕ) (within : i ≤ length t) (blocks : List (List ℕ)) (cut : blocks ≡ first_chunks 256 (whole_blocks 256 t i) (rest_of t i)) (k : ℕ) (clear : k ≡ prefix_len is_clear_block blocks) where
   plain : 256 * k ≤ prefix_len is_plain (drop i t)
-  plain = omega (arith, clear, ap (prefix_len is_clear_block) cut, (passed m r fits).plain, ap (prefix_len is_plain) rest)
+  plain =
+      let r = rest_of t i in
+      let fits : 256 * whole_blocks 256 t i ≤ length r = omega arith in
+      omega (arith, clear, ap (prefix_len is_clear_block) cut, (passed (whole_blocks 256 t i) r fits).plain, ap (prefix_len is_plain) (take_rest t i))
 
   pub clear_within : i + 256 * k ≤ length t
   clear_within = omega (arith, plain, prefix_len-le-length is_plain (drop i t), length-drop i t)

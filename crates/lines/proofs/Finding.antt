@@ -13,6 +13,10 @@ use Rattle.lines.specs.declared.records.LineBreak.{LineBreak}
 use Rattle.lines.proofs.BreakLaws.{lowered_none, rising_by, Lies, lies, every_text, every_list}
 use Rattle.lines.proofs.WidthRule.{width_rule}
 
+-- the breaks of a text rise in it
+pub rising : (t : List ℕ) → Rising 0 (breaks t) (length t)
+rising t = (every_text width width_rule t).rising
+
 -- a break has at most two bytes, and none of two begins with the second byte of one
 pub two : (t : List ℕ) → width t ≤ 2
 two [] = omega arith
@@ -87,7 +91,7 @@ module _ (t : List ℕ) where
       let b = by_width j in grind (arith, nat_tests)
 
   pub lowered_not : (o : ℕ) → (0 < o → width (drop (o - 1) t) ≡ 2 → ⊥) → o ≡ lowered (breaks t) o
-  lowered_not zero narrow = sym (lowered_none 0 (breaks t) (length t) 0 (every_text width width_rule t).rising (omega arith))
+  lowered_not zero narrow = sym (lowered_none 0 (breaks t) (length t) 0 (rising t) (omega arith))
   lowered_not (suc j) narrow =
       let same : suc j - 1 ≡ j = omega arith in
       let e = ap (λ j. width (drop j t)) same in
@@ -150,11 +154,11 @@ module _ (t : List ℕ) (from : ℕ) where
 
   module _ (i p : ℕ) (low-is : i ≡ lowered (breaks t) from) (is : p ≡ next_ending_lem t i) where
     outside : lowered (breaks t) i ≡ i
-    outside = ap (lowered (breaks t)) low-is ∙ (every_list (breaks t) (length t) (every_text width width_rule t).rising).lowered_out from ∙ sym low-is
+    outside = ap (lowered (breaks t)) low-is ∙ (every_list (breaks t) (length t) (rising t)).lowered_out from ∙ sym low-is
 
     from_low : next_break_lem (breaks t) from ≡ break_ending (breaks_by width 0 i (drop i t)) 0
     from_low =
-        sym (ap (break_ending (breaks t)) ((every_list (breaks t) (length t) (every_text width width_rule t).rising).lowered_line from))
+        sym (ap (break_ending (breaks t)) ((every_list (breaks t) (length t) (rising t)).lowered_line from))
         ∙ ap (next_break_lem (breaks t)) (sym low-is)
         ∙ next_is i outside
 
@@ -206,7 +210,7 @@ module _ (t : List ℕ) (o : ℕ) (short : length t ≤ 4294967295) where
   told_whole_lem r told = told ∙ ap (λ t. next_break_lem (breaks t) o) (seen_whole t short)
 
   pub ends_within : (b : LineBreak) → Some b ≡ next_break_lem (breaks (seen t)) o → past b ≤ length t
-  ends_within b told = omega (arith, (lies 0 (breaks t) (length t) (every_text width width_rule t).rising (line_of (breaks t) o) b (sym (told_whole_lem (Some b) told))).within)
+  ends_within b told = omega (arith, (lies 0 (breaks t) (length t) (rising t) (line_of (breaks t) o) b (sym (told_whole_lem (Some b) told))).within)
 
 pub line_all : (i : ℕ) (bs : List LineBreak) (n : ℕ) → Rising i bs n → line_of bs n ≡ length bs
 line_all i [] n r = refl
@@ -220,15 +224,15 @@ none_after (b ∷ bs) = none_after bs
 
 -- no break is left at the end
 pub over : (t : List ℕ) → next_break_lem (breaks t) (length t) ≡ None
-over t = ap (break_ending (breaks t)) (line_all 0 (breaks t) (length t) (every_text width width_rule t).rising) ∙ none_after (breaks t)
+over t = ap (break_ending (breaks t)) (line_all 0 (breaks t) (length t) (rising t)) ∙ none_after (breaks t)
 
 -- the next break from o on: where it lies, and that it moves on
 module _ (t : List ℕ) (o : ℕ) (b : LineBreak) (told : Some b ≡ next_break_lem (breaks t) o) where
   pub next_lies : Lies 0 (breaks t) (length t) (line_of (breaks t) o) b
-  next_lies = lies 0 (breaks t) (length t) (every_text width width_rule t).rising (line_of (breaks t) o) b (sym told)
+  next_lies = lies 0 (breaks t) (length t) (rising t) (line_of (breaks t) o) b (sym told)
 
   pub next_moves : o < past b
   next_moves = ⊎_elim
       (λ ends. omega (arith, ends.1))
-      (λ before. absurd (omega (arith, next_lies.next_line, (every_list (breaks t) (length t) (every_text width width_rule t).rising).never_falls (past b) o (omega (arith, before.1)))))
+      (λ before. absurd (omega (arith, next_lies.next_line, (every_list (breaks t) (length t) (rising t)).never_falls (past b) o (omega (arith, before.1)))))
       (leb_tells o b.end)

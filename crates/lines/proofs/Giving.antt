@@ -19,13 +19,12 @@ use Rattle.lines.specs.Cursor.{to_come, Gives}
 use Rattle.lines.specs.Laws.{Rising}
 use Rattle.lines.specs.declared.cursor.LineBreaks.{LineBreaks}
 use Rattle.lines.specs.declared.records.LineBreak.{LineBreak}
-use Rattle.lines.proofs.BreakLaws.{every_text, line_none, drop_some, drop_none}
-use Rattle.lines.proofs.Finding.{over, next_lies}
-use Rattle.lines.proofs.WidthRule.{width_rule}
+use Rattle.lines.proofs.BreakLaws.{line_none, drop_some, drop_none}
+use Rattle.lines.proofs.Finding.{rising, over, next_lies}
 
 -- no line begins before 0
 pub line_first : (t : List ℕ) → line_of (breaks t) 0 ≡ 0
-line_first t = line_none 0 (breaks t) (length t) 0 (every_text _ width_rule t).rising (omega arith)
+line_first t = line_none 0 (breaks t) (length t) 0 (rising t) (omega arith)
 
 pub all_left : (t : List ℕ) → breaks_left (breaks t) 0 ≡ breaks t
 all_left t = ap (λ k. drop k (breaks t)) (line_first t)

@@ -6,7 +6,7 @@ use Rattle.lines.proofs.BreakLaws.{few}
 use Rattle.listing.specs.Table.{is_lf, is_cr, is_cr_lf, lines_from, lines_of, how_many, tally_of, counted, IsBelow}
 use Rattle.listing.specs.declared.line.Ending.{Ending}
 use Rattle.listing.specs.declared.line.Line.{Line}
-use Rattle.listing.proofs.Splitting.{rising}
+use Rattle.lines.proofs.Finding.{rising}
 
 how_many_more : (such : Option Ending → Bool) (list : List Line) (line : Line) → how_many such list + cond (such line.ending) 1 0 ≡ how_many such (list ++ line ∷ [])
 how_many_more such [] line = omega arith

@@ -3,19 +3,14 @@ use Rattle.std.proofs.Common.{◌≡◌, ℕ, zero, suc, ◌+◌, ◌-◌, ◌^�
 use Rattle.std.specs.Iterator.{MakesProgress, item_count}
 use Rattle.lines.specs.Breaks.{seen, breaks, break_ending, past, line_start_lem, next_break_lem}
 use Rattle.lines.specs.Laws.{Rising}
-use Rattle.lines.specs.LineRule.{width}
 use Rattle.lines.specs.declared.records.LineBreak.{LineBreak}
-use Rattle.lines.proofs.BreakLaws.{Lies, lies, drop_some, drop_none, few, start_of, every_text, every_list}
-use Rattle.lines.proofs.Finding.{seen_whole}
-use Rattle.lines.proofs.WidthRule.{width_rule}
+use Rattle.lines.proofs.BreakLaws.{Lies, lies, drop_some, drop_none, few, start_of, every_list}
+use Rattle.lines.proofs.Finding.{rising, seen_whole}
 use Rattle.listing.specs.Table.{ending_of_lem, lines_from}
 use Rattle.listing.specs.Left.{lines_at, lines_left}
 use Rattle.listing.specs.declared.line.Ending.{Ending}
 use Rattle.listing.specs.declared.line.Line.{Line}
 use Rattle.listing.specs.declared.split.Lines.{Lines}
-
-pub rising : (t : List ℕ) → Rising 0 (breaks t) (length t)
-rising t = (every_text width width_rule t).rising
 
 -- the breaks after break k
 rising_past : (i : ℕ) (bs : List LineBreak) (n : ℕ) → Rising i bs n → (k : ℕ) (b : LineBreak) → break_ending bs k ≡ Some b → Rising (past b) (drop (suc k) bs) n

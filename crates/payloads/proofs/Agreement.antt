@@ -12,7 +12,7 @@ use Rattle.lines.specs.declared.records.Window.{Window}
 use Rattle.lines.proofs.BreakLaws.{every_text, every_list}
 use Rattle.lines.proofs.Finding.{lowered_in, two}
 use Rattle.lines.proofs.WidthRule.{width_rule}
-use Rattle.payloads.proofs.Passing.{rising}
+use Rattle.lines.proofs.Finding.{rising}
 use Rattle.payloads.proofs.Stepping.{plain_line, plain_column, line_at_end, ends_column, pair_line, pair_column}
 use Rattle.lines.proofs.Giving.{line_first}
 use Rattle.payloads.proofs.Walking.{column_first, widest}

@@ -11,7 +11,8 @@ use Rattle.lines.specs.declared.records.LineBreak.{LineBreak}
 use Rattle.lines.proofs.BreakLaws.{line_none, lies, every_list}
 use Rattle.lines.proofs.Finding.{lowered_not}
 use Rattle.lines.proofs.WidthRule.{width_rule}
-use Rattle.payloads.proofs.Passing.{rising, lowered_le}
+use Rattle.lines.proofs.Finding.{rising}
+use Rattle.payloads.proofs.Passing.{lowered_le}
 use Rattle.payloads.proofs.Stepping.{ends_pair, from_start}
 use Rattle.payloads.proofs.Walking.{line_few}
 

@@ -3,17 +3,11 @@ use Rattle.std.proofs.Common.{◌≡◌, ℕ, ◌+◌, ◌-◌, ◌≤◌, min, 
 use Rattle.std.proofs.lemmas.List.{take_all}
 use Rattle.std.proofs.lemmas.Bool.Decides.{leb_tells}
 use Rattle.lines.specs.Breaks.{breaks, past, line_of, next_break_lem, lowered}
-use Rattle.lines.specs.Laws.{Rising}
-use Rattle.lines.specs.LineRule.{width}
 use Rattle.lines.specs.Payloads.{column_after}
 use Rattle.lines.specs.declared.records.LineBreak.{LineBreak}
 use Rattle.lines.specs.declared.records.Place.{Place}
-use Rattle.lines.proofs.BreakLaws.{line_none, Lies, drop_some, drop_none, few, lower_law, every_text}
-use Rattle.lines.proofs.Finding.{next_lies}
-use Rattle.lines.proofs.WidthRule.{width_rule}
-
-pub rising : (t : List ℕ) → Rising 0 (breaks t) (length t)
-rising t = (every_text width width_rule t).rising
+use Rattle.lines.proofs.BreakLaws.{line_none, Lies, drop_some, drop_none, few, lower_law}
+use Rattle.lines.proofs.Finding.{rising, next_lies}
 
 -- with the breaks of d before `at` passed, the place is p
 pub record Passing (d : List ℕ) (r line column : ℕ) (p : Place) (at : ℕ) : Type 0 where

@@ -11,7 +11,7 @@ use Rattle.lines.proofs.BreakLaws.{lies, every_text, every_list}
 use Rattle.lines.proofs.Finding.{lowered_in, lowered_not, finds_some}
 use Rattle.lines.proofs.Seeking.{stops}
 use Rattle.lines.proofs.WidthRule.{width_rule}
-use Rattle.payloads.proofs.Passing.{rising}
+use Rattle.lines.proofs.Finding.{rising}
 
 -- the second byte of a pair is a break by itself
 second : (c : ℕ) (t : List ℕ) → width (c ∷ t) ≡ 2 → width t ≡ 1

@@ -7,7 +7,8 @@ use Rattle.lines.specs.LineRule.{width}
 use Rattle.lines.specs.declared.records.LineBreak.{LineBreak}
 use Rattle.lines.proofs.BreakLaws.{few}
 use Rattle.lines.proofs.Finding.{line_all, two}
-use Rattle.payloads.proofs.Passing.{rising, lowered_le}
+use Rattle.lines.proofs.Finding.{rising}
+use Rattle.payloads.proofs.Passing.{lowered_le}
 use Rattle.payloads.proofs.Stepping.{plain_line, line_at_end, ends_start, pair_line}
 
 pub column_first : (t : List ℕ) → column_of (breaks t) 0 ≡ 0

@@ -19,7 +19,8 @@ use Rattle.payloads.specs.Law.{bare, start_place, Agrees, Holds}
 use Rattle.payloads.specs.Readings.{reading}
 use Rattle.payloads.proofs.Agreement.{looks_up_lem}
 use Rattle.payloads.proofs.Ends.{cut_more, cut_same, end_trailing, open_start, open_line, open_upto}
-use Rattle.payloads.proofs.Passing.{rising, lowered_le}
+use Rattle.lines.proofs.Finding.{rising}
+use Rattle.payloads.proofs.Passing.{lowered_le}
 use Rattle.payloads.proofs.Stepping.{after_pair, from_start}
 
 -- the end of a text is outside every break

@@ -4,7 +4,7 @@ use Rattle.lines.specs.Breaks.{breaks, line_of}
 use Rattle.lines.specs.Cursor.{to_come}
 use Rattle.lines.proofs.BreakLaws.{few}
 use Rattle.lines.proofs.Giving.{count_while, ended_in_front}
-use Rattle.payloads.proofs.Passing.{rising}
+use Rattle.lines.proofs.Finding.{rising}
 use Rattle.payloads.proofs.Walking.{line_few}
 use Rattle.line_maps.proofs.plain.line_of.Goals as goal
 

@@ -1,7 +1,7 @@
 use Rattle.std.proofs.Common.{length, sym, ◌∙◌, arith}
 use Rattle.lines.specs.Breaks.{breaks}
 use Rattle.lines.proofs.BreakLaws.{lies}
-use Rattle.payloads.proofs.Passing.{rising}
+use Rattle.lines.proofs.Finding.{rising}
 use Rattle.line_maps.proofs.plain.PlainScanLineMap.line_start_of.Goals as goal
 
 pub overflow_add-result : goal.overflow_add-result
