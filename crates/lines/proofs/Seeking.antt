@@ -32,3 +32,7 @@ passes_to t i n r fits is far =
 -- in a part of the text that ends at i + n the search stops where it does in all, or with the part
 pub in_part : (t : List ℕ) (i n : ℕ) → i + n ≤ length t → next_ending_lem (take (i + n) t) i ≡ min (next_ending_lem t i) (i + n)
 in_part t i n fits = omega (arith, ap (prefix_len is_plain) (drop-take i n t), leading_take (drop i t) n, length-take (i + n) t, prefix_len-le-length is_plain (drop i t), length-drop i t)
+
+-- and in n bytes from i on, as many of which stand before its first CR or LF
+pub in_front : (t : List ℕ) (i n r : ℕ) → i + n ≤ length t → r ≡ prefix_len is_plain (take n (drop i t)) → i + r ≡ min (next_ending_lem t i) (i + n)
+in_front t i n r fits is = omega (arith, is, leading_take (drop i t) n, prefix_len-le-length is_plain (drop i t), length-drop i t)

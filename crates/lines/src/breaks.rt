@@ -11,19 +11,9 @@ use crate::text::seen_bytes;
 pub fn break_width(text: &[u8], at: usize) -> usize
     ensures { result ≡ width (drop at text.now) }
 {
-    if at < text.len() {
-        front_width(&text[at..])
-    } else {
-        0
-    }
-}
-
-fn front_width(text: &[u8]) -> usize
-    ensures { result ≡ width text.now }
-{
-    match text {
-        [b'\r', b'\n', ..] => 2,
-        [b'\r' | b'\n', ..] => 1,
+    match text.get(at) {
+        Some(b'\r') if text.get(at + 1) == Some(&b'\n') => 2,
+        Some(b'\r' | b'\n') => 1,
         _ => 0,
     }
 }

@@ -1,7 +1,8 @@
 // The way to the next CR or LF, which everything that finds breaks goes.
 //
-// Most lines are short, so it looks at 16 bytes at a time first. After 96 bytes without a hit it passes over blocks of
-// 256, whose test the compiler turns into a few vector instructions. The last bytes of the text are looked at one by one.
+// Most lines are short, so it looks at 16 bytes first, and then at 16 bytes at a time. After 96 bytes without a hit it
+// passes over blocks of 256, whose test the compiler turns into a few vector instructions. The last bytes of the text are
+// looked at one by one.
 ghost use Rattle.std.specs.Prelude.{◌≡◌, ℕ, ◌+◌, ◌<◌, ◌≤◌, min, true, map, length, take, ◌≢◌, slice_index, position, nat_lt, ◌&&◌};
 ghost use Rattle.std.specs.Simd.Lanes.{mask_l};
 ghost use Rattle.std.specs.List.{prefix_len, fold};
@@ -14,8 +15,8 @@ const CR: u8 = b'\r';
 
 const LF: u8 = b'\n';
 
-// How far the search looks at 16 bytes at a time before it passes over blocks of 256.
-const NEAR: usize = 96;
+// How far past its first 16 bytes the search looks at 16 bytes at a time before it passes over blocks of 256.
+const NEAR: usize = 80;
 
 // The first place from `from` on that holds CR or LF, or the length where there is none.
 pub fn next_ending(text: &[u8], from: usize) -> usize
@@ -24,6 +25,21 @@ pub fn next_ending(text: &[u8], from: usize) -> usize
     if from > text.len() {
         return text.len();
     }
+    let Some(block) = text[from..].first_chunk::<16>() else {
+        return next_by_16(text, from);
+    };
+    let front = plain_front(block);
+    if front < 16 {
+        return from + front;
+    }
+    next_far(text, from + 16)
+}
+
+// The same, where no CR or LF came at once.
+fn next_far(text: &[u8], from: usize) -> usize
+    requires { from ≤ length text.now }
+    ensures { result ≡ next_ending_lem text.now from }
+{
     let near = from + NEAR.min(text.len() - from);
     let found = next_by_16(&text[..near], from);
     if found < near {
@@ -32,7 +48,9 @@ pub fn next_ending(text: &[u8], from: usize) -> usize
     next_by_16(text, skip_blocks(text, near))
 }
 
-// The same, 16 bytes at a time, and byte by byte in what is left.
+// The same, 16 bytes at a time, and byte by byte in what is left. Inlined, so that the search of a short line makes no
+// call.
+#[inline(always)]
 fn next_by_16(text: &[u8], from: usize) -> usize
     requires { from ≤ length text.now }
     ensures { result ≡ next_ending_lem text.now from }
@@ -54,11 +72,16 @@ fn first_block(blocks: &[[u8; 16]]) -> Option<usize>
     blocks.iter().position(|block| plain_front(block) < 16)
 }
 
-// The first CR or LF of some bytes.
+// The first CR or LF of some bytes. A loop over places, so that where it begins is a number.
 fn first_ending(bytes: &[u8]) -> Option<usize>
     ensures { result ≡ position ends_line_lem bytes.now }
 {
-    bytes.iter().position(|byte| ends_line(*byte))
+    for i in 0..bytes.len() {
+        if ends_line(bytes[i]) {
+            return Some(i);
+        }
+    }
+    None
 }
 
 fn ends_line(byte: u8) -> bool

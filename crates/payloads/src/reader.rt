@@ -64,7 +64,7 @@ impl<'a> SpanReader<'a> {
         close(&mut walk, end, context.after);
         Some(Window {
             start: first.start,
-            length: walk.at - first.start,
+            length: walk.place() - first.start,
             line: first.line,
             column: first.column,
             line_count: walk.line,
@@ -128,7 +128,7 @@ fn line_start(text: Text, line: u32) -> u32
     }
     let mut walk = Walk::new(text);
     walk.to_line(line as u64);
-    walk.at
+    walk.place()
 }
 
 // Goes on to the end of the window of a span that ends before `end`.

@@ -9,7 +9,8 @@ use lines::text::Text;
 #[derive(Drop)]
 pub(crate) struct Walk<'a> {
     pub(crate) text: Text<'a>,
-    pub(crate) at: u32,
+    // Where it stands, as an index, so that the compiler sees where a step needs no test of its own.
+    pub(crate) at: usize,
     pub(crate) line: u32,
     pub(crate) column: u32,
     ghost within: { at ≤ length text.slice.now },
@@ -32,6 +33,13 @@ impl<'a> Walk<'a> {
         }
     }
 
+    // Where it stands, in 32 bits.
+    pub(crate) fn place(&self) -> u32
+        ensures { result ≡ self.now.at }
+    {
+        self.at as u32
+    }
+
     // One byte on. The CR of a pair changes neither line nor column, the last byte of a break begins a line, and any
     // other byte is a column.
     fn step(&mut self)
@@ -39,7 +47,7 @@ impl<'a> Walk<'a> {
         ensures text { self.new.text.slice.now ≡ self.old.text.slice.now }
         ensures at { self.new.at ≡ self.old.at + 1 }
     {
-        let width = break_width(self.text.bytes(), self.at as usize);
+        let width = break_width(self.text.bytes(), self.at);
         self.at += 1;
         match width {
             0 => self.column += 1,
@@ -56,7 +64,8 @@ impl<'a> Walk<'a> {
         ensures text { self.new.text.slice.now ≡ self.old.text.slice.now }
         ensures at { self.new.at ≡ max self.old.at (min offset (length self.old.text.slice.now)) }
     {
-        for _ in self.at..offset.min(self.text.len()) {
+        let end = (offset as usize).min(self.text.bytes().len());
+        for _ in self.at..end {
             self.step();
         }
     }
@@ -69,7 +78,7 @@ impl<'a> Walk<'a> {
         ensures at { self.new.at ≡ unwrap_or (line_start_lem (breaks self.old.text.slice.now) line) (length self.old.text.slice.now) }
         ensures onward { self.old.at ≤ self.new.at }
     {
-        while (self.line as u64) < line && self.at < self.text.len() {
+        while (self.line as u64) < line && self.at < self.text.bytes().len() {
             self.step();
         }
     }
