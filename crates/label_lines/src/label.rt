@@ -67,7 +67,8 @@ impl<'a> Fields<'a> {
         }
     }
 
-    // The number in the next field, which has this number in the line.
+    // The number in the next field, which has this number in the line. It is inlined as `field_number` is.
+    #[inline(always)]
     fn number(&mut self, field: u32) -> Result<u32, LineFault>
         ensures told { result_map_both (λ n. n) line_numbers result ≡ number_in field self.old.size self.old.fields }
         ensures left { self.new ≡ past_field self.old }
