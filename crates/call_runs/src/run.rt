@@ -23,9 +23,11 @@ pub fn run<M: LineMap>(map: &mut M, page: &mut [u8], calls: &[Call], told: &mut 
     ensures went { Went (take result calls.now) (M.frontier map.old) (M.frontier map.new) }
 {
     let count = calls.len().min(told.len());
-    // By index: after a loop over `told.iter_mut()` zipped with the calls, no proof knows what stands in the places.
-    for (i, call) in calls[..count].iter().enumerate() {
-        told[i] = serve(map, page, *call);
+    let asked = &calls[..count];
+    // By index: after a loop over `told.iter_mut()` zipped with the calls, no proof knows what stands in the places. The
+    // calls too, and not by `iter().enumerate()`, so that where the loop begins is a number that a must-fail edit turns.
+    for i in 0..asked.len() {
+        told[i] = serve(map, page, asked[i]);
     }
     count
 }

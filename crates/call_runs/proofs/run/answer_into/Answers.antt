@@ -1,4 +1,4 @@
-use Rattle.std.proofs.Common.{◌≡◌, ℕ, Ok, Err, Result, ap, ◌∙◌}
+use Rattle.std.proofs.Common.{◌≡◌, ℕ, Ok, Err, Result, ap, ◌∙◌, rules}
 use Rattle.std.specs.Result.{MatchResult, IsErrAnd, result_map_both}
 use Rattle.lines.specs.declared.records.Fault.{Fault}
 use Rattle.answers.specs.Faults.{answer_numbers}
@@ -17,7 +17,7 @@ numbered (Err e) (Err f) is = ap Err is
 pub returns-clause-told : goal.returns-clause-told
 returns-clause-told g c =
     let line = line_for (g.M.LineMap.text c.args.map.now) c.args.line.now in
-    numbered c.answer.result c.map_err.result c.map_err.ensures.cases
+    numbered c.answer.result c.map_err.result (search rules)
     ∙ c.answer.ensures.told
     ∙ ap (λ out. answered out line) (lent c.args.page.now c.args.part _ _ c.within-places.ensures.start c.within-places.ensures.end)
 

@@ -1,4 +1,4 @@
-use Rattle.std.proofs.Common.{◌≡◌, take, sym, ap, ◌∙◌, arith}
+use Rattle.std.proofs.Common.{◌≡◌, take, sym, ap, ◌∙◌, arith, rules}
 use Rattle.std.proofs.lemmas.List.{drop_more, length-take}
 use Rattle.call_runs.specs.declared.calls.Call.{Call}
 use Rattle.call_runs.proofs.Lawfully.{lawful}
@@ -8,7 +8,7 @@ use Rattle.call_runs.proofs.run.run.Goals as goal
 pub loop-i-preserved : goal.loop-i-preserved
 loop-i-preserved g c = record {
   kept = c.serve.ensures.kept ∙ c.loop-i.invariant.kept;
-  served = served_more c.loop-i.invariant.served _ (drop_more _ c.loop-i.i _ c.loop-i-test.true) (omega (arith, length-take {A = Call})) _ c.loop-i.invariant.kept _ _ _ c.serve.ensures.told c.serve.ensures.page c.serve.ensures.moved;
+  served = served_more c.loop-i.invariant.served _ (search (rules, drop_more)) (omega (arith, length-take {A = Call})) _ c.loop-i.invariant.kept _ _ _ c.serve.ensures.told c.serve.ensures.page c.serve.ensures.moved;
 }
 
 pub returns-clause-law : goal.returns-clause-law
