@@ -3,6 +3,8 @@
 // `source HEX` names the source of the rows after it. `answer LENGTH HEX` asks for the answer to a label line, and
 // `fault LENGTH NUMBER LAYER FIELD PLACE` for the line of a fault, in a buffer of that length. A row that begins with
 // `#` is a comment. The bytes of a source and of a line are in hexadecimal.
+ghost use Rattle.std.specs.Prelude.{◌≤◌, IfOk, vec_len};
+
 use answers::answer::{answer, write_fault};
 use anyhow::{anyhow, bail};
 use line_maps::plain::PlainScan;
@@ -96,7 +98,9 @@ impl Table {
 }
 
 // A buffer of the length that a row asks for, before the call.
-fn buffer_of(heap: Global, length: &str) -> anyhow::Result<Vec<u8>> {
+fn buffer_of(heap: Global, length: &str) -> anyhow::Result<Vec<u8>>
+    ensures { IfOk result (λ buffer. vec_len buffer ≤ 60) }
+{
     let length = length.parse()?;
     if length > LONGEST {
         bail!("a row has a buffer of more than 60 bytes");

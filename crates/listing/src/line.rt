@@ -42,6 +42,18 @@ pub struct Line {
     pub ending: Option<Ending>,
 }
 
+impl Line {
+    // The word that the table has for its ending; `none` where it has none.
+    pub fn ending_text(self) -> &'static str
+        ensures { result.now ≡ ending_text self.ending }
+    {
+        match self.ending {
+            Some(ending) => ending.text(),
+            None => "none",
+        }
+    }
+}
+
 // The line's row in the table.
 impl fmt::Display for Line {
     ghost output = { λ line. Some (line_text line) };
@@ -51,12 +63,9 @@ impl fmt::Display for Line {
             number,
             start,
             length,
-            ending,
+            ..
         } = *self;
-        write!(f, "{number},{start},{length},")?;
-        match ending {
-            Some(ending) => write!(f, "{ending}"),
-            None => write!(f, "none"),
-        }
+        let ending = self.ending_text();
+        write!(f, "{number},{start},{length},{ending}")
     }
 }

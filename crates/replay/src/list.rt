@@ -1,6 +1,6 @@
 // The list of the original's answers, held against this repository's.
 use crate::departures::{Outcome, departure_of};
-use crate::rows::{Answer, Row};
+use crate::rows::{Answer, Row, bytes_of};
 use crate::tally::Tally;
 use call_runs::calls::{Call, Told};
 use call_runs::run::run;
@@ -34,10 +34,12 @@ impl List {
     // How the row's answer compares; a row without one agrees.
     pub fn replay(&mut self, row: &str) -> anyhow::Result<Outcome> {
         let source = self.source.as_slice();
-        let (agrees, label) = match Row::parse(self.heap, row)? {
+        let (agrees, label) = match Row::parse(row)? {
             Row::Comment => return Ok(Ok(())),
-            Row::Source(bytes) => {
-                self.source = bytes;
+            Row::Source(hex) => {
+                // The source before goes first, so that memory never holds the two.
+                self.source = Vec::new(self.heap);
+                self.source = bytes_of(self.heap, hex)?;
                 return Ok(Ok(()));
             }
             Row::Read(label, answer) => {

@@ -4,15 +4,17 @@
 // length, line, column and line_count, or `none`. `look` has the same four numbers and an offset, and then line and
 // column, or `none`. A row that begins with `#` is a comment.
 use anyhow::{anyhow, bail};
+use arrayvec::ArrayVec;
 use label_lines::label::Label;
 use lines::records::{Context, Place, SourceSpan, Window};
 use lower_hex::{HexError, decode};
 use std::alloc::{AllocError, Global};
 
 #[derive(Drop)]
-pub enum Row {
+pub enum Row<'a> {
     Comment,
-    Source(Vec<u8>),
+    // In hexadecimal.
+    Source(&'a str),
     Read(Label, Answer<Window>),
     // The place of an offset.
     Look(Label, u32, Answer<Place>),
@@ -21,25 +23,28 @@ pub enum Row {
 // What the original answered, which may be none; nothing where the row's numbers are no answer.
 pub type Answer<T> = Option<Option<T>>;
 
-impl Row {
-    pub fn parse(heap: Global, row: &str) -> anyhow::Result<Row> {
+// How many numbers a row has at most.
+const MOST_NUMBERS: usize = 10;
+
+impl<'a> Row<'a> {
+    pub fn parse(row: &'a str) -> anyhow::Result<Row<'a>> {
         let mut words = row.split(' ');
         let kind = words.next().unwrap_or("");
         if kind == "#" {
             return Ok(Row::Comment);
         }
         if kind == "source" {
-            return Ok(Row::Source(bytes_of(heap, words.next().unwrap_or(""))?));
+            return Ok(Row::Source(words.next().unwrap_or("")));
         }
-        let mut numbers = Vec::new(heap);
+        let mut numbers = ArrayVec::<u64, MOST_NUMBERS>::new();
         for word in words {
-            if numbers.len() == 10 {
+            if numbers.is_full() {
                 bail!("a line has more than ten numbers");
             }
             if word == "none" {
                 break;
             }
-            numbers.push(word.parse::<u64>()?)?;
+            numbers.push(word.parse::<u64>()?);
         }
         let numbers = numbers.as_slice();
         // Rows are data of a few kinds.
@@ -56,7 +61,7 @@ impl Row {
 }
 
 // The bytes of a source, two digits each; a last digit alone names none, and the message is this list's own.
-fn bytes_of(heap: Global, hex: &str) -> anyhow::Result<Vec<u8>> {
+pub fn bytes_of(heap: Global, hex: &str) -> anyhow::Result<Vec<u8>> {
     let digits = hex.as_bytes();
     decode(heap, &digits[..digits.len() / 2 * 2]).map_err(|error| match error {
         HexError::OutOfMemory => AllocError.into(),
